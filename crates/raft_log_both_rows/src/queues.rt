@@ -13,7 +13,7 @@ use raft_log_records::{
     EntryIndex, LogBatch, LogQueue, ReadableSize, RecordError, read_entries_block,
 };
 use raft_log_recovery::{DefaultMachineFactory, DualPipesBuilder};
-use raft_log_replay::ReplayedBatches;
+use raft_log_replay::ReplayedTables;
 use std::alloc::{AllocError, Global};
 
 /// What an opening showed.
@@ -48,11 +48,10 @@ fn open<F: FileSystem>(
     let mut builder = DualPipesBuilder::new(alloc, config_of(alloc, mode)?);
     builder.scan(files)?;
     let factory = DefaultMachineFactory::new(alloc);
-    let (pipes, machine) = builder.recover_alone::<F, ReplayedBatches, DefaultMachineFactory>(
+    let (pipes, machine) = builder.recover_alone::<F, ReplayedTables, DefaultMachineFactory>(
         files, &factory,
     )?;
-    let tables = machine.finish(alloc, MemTables::new(alloc))?;
-    Ok((pipes, tables))
+    Ok((pipes, machine.finish()))
 }
 
 fn first_of(bytes: &[u8]) -> char {

@@ -26,7 +26,7 @@ use raft_log_memtables::MemTables;
 use raft_log_pipes::DualPipes;
 use raft_log_records::LogQueue;
 use raft_log_recovery::{DefaultMachineFactory, DualPipesBuilder};
-use raft_log_replay::ReplayedBatches;
+use raft_log_replay::ReplayedTables;
 use std::alloc::Global;
 
 /// An engine that wasn't opened (own): why, and its files.
@@ -75,11 +75,10 @@ fn recovered<F: FileSystem>(
     let mut builder = DualPipesBuilder::new(alloc, config);
     builder.scan(files)?;
     let factory = DefaultMachineFactory::new(alloc);
-    let (pipes, machine) = builder.recover_alone::<F, ReplayedBatches, DefaultMachineFactory>(
+    let (pipes, machine) = builder.recover_alone::<F, ReplayedTables, DefaultMachineFactory>(
         files, &factory,
     )?;
-    let tables = machine.finish(alloc, MemTables::new(alloc))?;
-    Ok((pipes, tables))
+    Ok((pipes, machine.finish()))
 }
 
 /// The same under sound settings. Unsound ones are refused before any call on the files.

@@ -138,6 +138,7 @@ impl LogItemBatchFileReader {
         ensures reader { OnOk result (IsReader self.new (F.disk files.now)) }
         ensures held { OnOk result (held_bytes self.new (F.disk files.now) ≡ ((F.disk files.now).file reader.fd.0).bytes) }
         ensures offset { OnOk result (self.new.valid_offset ≡ header_len format.version) }
+        ensures file { OnOk result (self.new.file ≡ Some (record { id = id; format = format; fd = reader.fd })) }
         ensures err { IfErr result (λ e. IsOpenFault (F.disk files.now) (F.meter files.now) reader.fd.0 format e) }
         ensures kept { OnErr result (self.new ≡ self.old) }
     {

@@ -5,7 +5,7 @@ use raft_log_items::ConsistencyChecker;
 use raft_log_records::{
     Command, EntryIndex, FileBlockHandle, FileId, LogItem, LogItemBatch, LogItemContent, LogQueue,
 };
-use raft_log_recovery::{NewMachine, ReplayMachine};
+use raft_log_recovery::{MergeMachine, NewMachine, ReplayMachine};
 use raft_rows::number;
 use std::alloc::{AllocError, Global};
 

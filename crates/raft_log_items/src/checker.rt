@@ -9,7 +9,7 @@ ghost use Rattle.raft_log_items.specs.Holes.{AreHoles, HasSpans, bounds_in, hole
 
 use raft_log_files::Error;
 use raft_log_records::{FileBlockHandle, LogItem, LogItemBatch, LogItemContent};
-use raft_log_recovery::{NewMachine, ReplayMachine};
+use raft_log_recovery::{MergeMachine, NewMachine, ReplayMachine};
 use std::alloc::{AllocError, Global};
 use std::collections::BTreeMap;
 
@@ -147,7 +147,9 @@ impl ReplayMachine for ConsistencyChecker {
         self.add_items(&batch.items)?;
         Ok(())
     }
+}
 
+impl MergeMachine for ConsistencyChecker {
     fn merge(&mut self, behind: ConsistencyChecker) -> Result<(), Error> {
         self.add_spans(behind.spans)?;
         Ok(())

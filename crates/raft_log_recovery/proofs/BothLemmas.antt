@@ -15,12 +15,14 @@ use Rattle.raft_log_pipe.specs.Pipe.{Holds, IsPipe, Numbered, id_of}
 use Rattle.raft_log_pipe.proofs.AloneLemmas.{in_second}
 use Rattle.raft_log_pipe.proofs.OthersLemmas.{alone_beside, once_beside, pipe_beside, pipe_holds_beside, same_others}
 use Rattle.raft_log_pipes.specs.declared.pipes.DualPipes.{DualPipes}
-use Rattle.raft_log_pipes.specs.Pipes.{ArePipes}
+use Rattle.raft_log_pipes.specs.Pipes.{ArePipes, pipe_of}
 use Rattle.raft_log_pipes.proofs.QueueLemmas.{not_append, not_rewrite}
 use Rattle.raft_log_recovery.specs.declared.builder.DualPipesBuilder.{DualPipesBuilder}
 use Rattle.raft_log_recovery.specs.declared.scan.FileKind.TheVariants.{Log}
 use Rattle.raft_log_recovery.specs.declared.scan.FileName.{FileName}
-use Rattle.raft_log_recovery.specs.Both.{AreOpened, ArePipesWith, CantBeOpened, IsFoundBy, IsOpened, LeavesBoth, LeavesQueue}
+use Rattle.raft_log_recovery.specs.Both.{AreOpened, ArePipesWith, CantBeOpened, IsFoundBy, IsOpened, IsSetBy, LeavesBoth, LeavesQueue}
+use Rattle.raft_log_recovery.specs.Crashed.{HasHole}
+use Rattle.raft_log_recovery.specs.Holes.{HolesOnlyBroken}
 use Rattle.raft_log_recovery.specs.Opening.{IsPipeWith, batches_of}
 use Rattle.raft_log_recovery.specs.Queue.{AnyRefused, AreNumbered, ChangesAtMost, IsFileOf, KeepsRefused, directories_in, names_in, path_of}
 use Rattle.raft_log_recovery.specs.Repair.{IsAtRest, LeavesBatches, batches_in}
@@ -29,6 +31,7 @@ use Rattle.raft_log_recovery.specs.Scan.{AreFound}
 use Rattle.raft_log_recovery.proofs.AgainLemmas.{none_keeps}
 use Rattle.raft_log_recovery.proofs.BesideLemmas.{HaveSame, aligned_same, batches_same, bytes_same, file_same, found_same, got_same, has_refused_same, have_beside, open_same, refused_same, sound_same, turned}
 use Rattle.raft_log_recovery.proofs.FoundLemmas.{found_numbered}
+use Rattle.raft_log_recovery.proofs.HoleLemmas.{broken_before, hole_before}
 use Rattle.raft_log_recovery.proofs.QueueLemmas.{number_of}
 use Rattle.raft_log_recovery.proofs.RepairLemmas.{leaves_same}
 
@@ -39,9 +42,10 @@ kept_either (Ok x) mode directories queue names old new refused kept = none_keep
 kept_either (Err e) mode directories queue names old new refused kept = kept
 
 pub opened_of : {E : Type 0} (r : Result SinglePipe E) (b : DualPipesBuilder) (queue : LogQueue) (old new : Disk) → IfOk r (λ p. IsPipe p new) → IfOk r (λ p. p.queue ≡ queue) → IfOk r (λ p. directories_of_pipe p ≡ directories_in b)
-    → IfOk r (λ p. IsOnce old.names (directories_in b) queue → IsAlone p new) → IfOk r (IsOpened b queue old new)
-opened_of (Ok p) b queue old new pipe same paths alone = record { pipe = pipe; queue_is = same; paths = paths; alone = alone }
-opened_of (Err e) b queue old new pipe same paths alone = tt
+    → IfOk r (λ p. IsOnce old.names (directories_in b) queue → IsAlone p new)
+    → IfOk r (IsSetBy b) → IfOk r (IsOpened b queue old new)
+opened_of (Ok p) b queue old new pipe same paths alone settings = record { pipe = pipe; queue_is = same; paths = paths; alone = alone; settings = settings }
+opened_of (Err e) b queue old new pipe same paths alone settings = tt
 
 some_in : (name : FileName) (names : List FileName) → IsIn name names → 0 < length names
 some_in name [] there = absurd there
@@ -127,74 +131,84 @@ module _ (directories : List Text) (own other : LogQueue) (names : List FileName
         got = got_same own mid d back between old directories count names w.files [] all numbers w.pipe.opened w.got;
       }
 
--- ---- the append queue was opened
+-- ---- the rewrite queue was opened
 
-module _ (mode : RecoveryMode) (b : DualPipesBuilder) (d mid : Disk) (old : IsNamed d) (between : IsNamed mid) (append : IsFoundBy b Append d) (rewrite : IsFoundBy b Rewrite d) (appends : KeepsOthers Append d mid) where
+module _ (mode : RecoveryMode) (b : DualPipesBuilder) (d mid : Disk) (old : IsNamed d) (between : IsNamed mid) (rewrite : IsFoundBy b Rewrite d) (append : IsFoundBy b Append d) (rewrites : KeepsOthers Rewrite d mid) where
   abbrev At : List Text
   At = directories_in b
 
-  same : HaveSame Rewrite d mid
-  same = have_beside Append Rewrite d mid (not_append Rewrite refl) old between appends
+  same : HaveSame Append d mid
+  same = have_beside Rewrite Append d mid (not_rewrite Append refl) old between rewrites
 
-  pub found_still : IsFoundBy b Rewrite mid
-  found_still = found_same Rewrite d mid same old between At (names_in b Rewrite) rewrite
+  pub found_still : IsFoundBy b Append mid
+  found_still = found_same Append d mid same old between At (names_in b Append) append
 
-  pub first_leaves : LeavesQueue mode At Append (names_in b Append) d mid → LeavesBoth mode b d mid
+  pub first_leaves : LeavesQueue mode At Rewrite (names_in b Rewrite) d mid → LeavesBoth mode b d mid
   first_leaves leaves = record {
-    append = leaves;
-    rewrite = leaves_untouched mode At Rewrite (names_in b Rewrite) d mid same old between rewrite;
-    only = record { between = mid; appends = appends; rewrites = same_others Rewrite mid mid refl };
+    rewrite = leaves;
+    append = leaves_untouched mode At Append (names_in b Append) d mid same old between append;
+    only = record { between = mid; rewrites = rewrites; appends = same_others Append mid mid refl };
   }
 
-  cant_still : CantBeOpened mode b Rewrite d → CantBeOpened mode b Rewrite mid
-  cant_still (inl refused) = inl (refused_same Rewrite d mid same old between mode At (length At) (names_in b Rewrite) (numbers_in mode At Rewrite (names_in b Rewrite) d rewrite) refused)
-  cant_still (inr aligned) = inr (aligned_same Rewrite d mid same old between At (length At) (names_in b Rewrite) (numbers_in mode At Rewrite (names_in b Rewrite) d rewrite) aligned)
+  cant_still : CantBeOpened mode b Append d → CantBeOpened mode b Append mid
+  cant_still (inl refused) = inl (refused_same Append d mid same old between mode At (length At) (names_in b Append) (numbers_in mode At Append (names_in b Append) d append) refused)
+  cant_still (inr aligned) = inr (aligned_same Append d mid same old between At (length At) (names_in b Append) (numbers_in mode At Append (names_in b Append) d append) aligned)
 
   -- what can't be opened of either queue wasn't
-  pub neither : (CantBeOpened mode b Append d → ⊥) → (CantBeOpened mode b Rewrite mid → ⊥) → (queue : LogQueue) → CantBeOpened mode b queue d → ⊥
-  neither one two Append cant = one cant
-  neither one two Rewrite cant = two (cant_still cant)
+  pub neither : (CantBeOpened mode b Rewrite d → ⊥) → (CantBeOpened mode b Append mid → ⊥) → (queue : LogQueue) → CantBeOpened mode b queue d → ⊥
+  neither one two Rewrite cant = one cant
+  neither one two Append cant = two (cant_still cant)
 
-  -- and then the rewrite queue
-  module _ (new : Disk) (next : IsNamed new) (rewrites : KeepsOthers Rewrite mid new) where
-    pub both_leave : LeavesQueue mode At Append (names_in b Append) d mid → ChangesAtMost At Append (names_in b Append) d mid → LeavesQueue mode At Rewrite (names_in b Rewrite) mid new → LeavesBoth mode b d new
+  -- and then the append queue
+  module _ (new : Disk) (next : IsNamed new) (appends : KeepsOthers Append mid new) where
+    pub both_leave : LeavesQueue mode At Rewrite (names_in b Rewrite) d mid → ChangesAtMost At Rewrite (names_in b Rewrite) d mid → LeavesQueue mode At Append (names_in b Append) mid new → LeavesBoth mode b d new
     both_leave first only second = record {
-      append = leaves_on mode At Append (names_in b Append) d mid new (have_beside Rewrite Append mid new (not_rewrite Append refl) between next rewrites) between next append only first;
-      rewrite = leaves_from mode At Rewrite (names_in b Rewrite) d mid new same old between rewrite second;
-      only = record { between = mid; appends = appends; rewrites = rewrites };
+      rewrite = leaves_on mode At Rewrite (names_in b Rewrite) d mid new (have_beside Append Rewrite mid new (not_append Rewrite refl) between next appends) between next rewrite only first;
+      append = leaves_from mode At Append (names_in b Append) d mid new same old between append second;
+      only = record { between = mid; rewrites = rewrites; appends = appends };
     }
 
-    module _ (p q : SinglePipe) (both : DualPipes) (is : (both.append ≡ p) × (both.rewrite ≡ q)) (first : IsOpened b Append d mid p) (second : IsOpened b Rewrite mid new q) where
-      apart : p.queue ≡ Rewrite → ⊥
-      apart other = not_rewrite p.queue first.queue_is other
+    module _ (p q : SinglePipe) (both : DualPipes) (is : (both.append ≡ q) × (both.rewrite ≡ p)) (first : IsOpened b Rewrite d mid p) (second : IsOpened b Append mid new q) where
+      apart : p.queue ≡ Append → ⊥
+      apart other = not_append p.queue first.queue_is other
 
       pub both_opened : AreOpened b d new both
       both_opened = record {
-        append = subst (IsOpened b Append d new) (sym is.0) (record {
-          pipe = pipe_beside Rewrite p mid new apart rewrites first.pipe;
+        rewrite = subst (IsOpened b Rewrite d new) (sym is.1) (record {
+          pipe = pipe_beside Append p mid new apart appends first.pipe;
           queue_is = first.queue_is;
           paths = first.paths;
-          alone = λ once. alone_beside Rewrite p mid new apart rewrites between next (first.alone once);
+          alone = λ once. alone_beside Append p mid new apart appends between next (first.alone once);
+          settings = first.settings;
         });
-        rewrite = subst (IsOpened b Rewrite d new) (sym is.1) (record {
+        append = subst (IsOpened b Append d new) (sym is.0) (record {
           pipe = second.pipe;
           queue_is = second.queue_is;
           paths = second.paths;
-          alone = λ once. second.alone (once_beside Append Rewrite d mid (not_append Rewrite refl) appends At old once);
+          alone = λ once. second.alone (once_beside Rewrite Append d mid (not_rewrite Append refl) rewrites At old once);
+          settings = second.settings;
         });
       }
 
       pub both_pipes : ArePipes both new
       both_pipes = record {
-        append = subst (λ (x : SinglePipe). IsPipe x new) (sym is.0) (pipe_beside Rewrite p mid new apart rewrites first.pipe);
-        rewrite = subst (λ (x : SinglePipe). IsPipe x new) (sym is.1) second.pipe;
+        rewrite = subst (λ (x : SinglePipe). IsPipe x new) (sym is.1) (pipe_beside Append p mid new apart appends first.pipe);
+        append = subst (λ (x : SinglePipe). IsPipe x new) (sym is.0) second.pipe;
       }
 
-      pub both_with : (ones twos : List Placed) → IsPipeWith At Append (names_in b Append) d mid p ones → IsPipeWith At Rewrite (names_in b Rewrite) mid new q twos → ArePipesWith b d new both (twos ++ ones)
+      pub both_with : (ones twos : List Placed) → IsPipeWith At Rewrite (names_in b Rewrite) d mid p ones → IsPipeWith At Append (names_in b Append) mid new q twos → ArePipesWith b d new both (ones ++ twos)
       both_with ones twos one two = record {
-        rewrites = twos;
-        appends = ones;
+        appends = twos;
+        rewrites = ones;
         all_are = refl;
-        rewrite = subst (λ (x : SinglePipe). IsPipeWith At Rewrite (names_in b Rewrite) d new x twos) (sym is.1) (with_from At Rewrite Append (names_in b Rewrite) d mid new q twos same old between rewrite two);
-        append = subst (λ (x : SinglePipe). IsPipeWith At Append (names_in b Append) d new x ones) (sym is.0) (with_on At Append Rewrite (names_in b Append) d mid new p ones apart rewrites one);
+        append = subst (λ (x : SinglePipe). IsPipeWith At Append (names_in b Append) d new x twos) (sym is.0) (with_from At Append Rewrite (names_in b Append) d mid new q twos same old between append two);
+        rewrite = subst (λ (x : SinglePipe). IsPipeWith At Rewrite (names_in b Rewrite) d new x ones) (sym is.1) (with_on At Rewrite Append (names_in b Rewrite) d mid new p ones apart appends one);
       }
+
+      pub both_holes : (ones : List Placed) → IsPipeWith At Rewrite (names_in b Rewrite) d mid p ones → HolesOnlyBroken mode At Rewrite (names_in b Rewrite) d mid p → HolesOnlyBroken mode At Append (names_in b Append) mid new q → (queue : LogQueue)
+          → HolesOnlyBroken mode At queue (names_in b queue) d new (pipe_of both queue)
+      both_holes ones one early late Rewrite hole =
+          early (hole_before Append p mid new (batches_of Rewrite d one.files) [] apart appends one.pipe.holds (subst (λ (x : SinglePipe). HasHole x new) is.1 hole))
+      both_holes ones one early late Append hole =
+          let broken = late (subst (λ (x : SinglePipe). HasHole x new) is.0 hole) in
+          (broken.0, broken_before Append d mid same old between At (length At) (names_in b Append) (numbers_in mode At Append (names_in b Append) d append) broken.1)

@@ -24,7 +24,7 @@ use Rattle.raft_log_files.specs.declared.recovery.RecoveryMode.{RecoveryMode}
 use Rattle.raft_log_pipe.specs.declared.file.File.{File}
 use Rattle.raft_log_pipe.specs.Others.{KeepsOthers}
 use Rattle.raft_log_pipe.specs.Pipe.{id_of}
-use Rattle.raft_log_pipes.proofs.QueueLemmas.{not_append}
+use Rattle.raft_log_pipes.proofs.QueueLemmas.{not_rewrite}
 use Rattle.raft_log_recovery.specs.declared.builder.DualPipesBuilder.{DualPipesBuilder}
 use Rattle.raft_log_recovery.specs.declared.scan.FileKind.TheVariants.{Log}
 use Rattle.raft_log_recovery.specs.declared.scan.FileName.{FileName}
@@ -142,16 +142,16 @@ any_aligned directories queue old mid names fs so any = aligned_in old directori
 
 -- ---- both queues
 
--- what can't be opened of the rewrite queue behind an opening of the append queue couldn't before
-pub cant_before : (mode : RecoveryMode) (b : DualPipesBuilder) (d mid : Disk) → IsNamed d → IsNamed mid → IsFoundBy b Rewrite d → KeepsOthers Append d mid → CantBeOpened mode b Rewrite mid → CantBeOpened mode b Rewrite d
-cant_before mode b d mid old between found appends cant = by_reason cant
+-- what can't be opened of the append queue behind an opening of the rewrite queue couldn't before
+pub cant_before : (mode : RecoveryMode) (b : DualPipesBuilder) (d mid : Disk) → IsNamed d → IsNamed mid → IsFoundBy b Append d → KeepsOthers Rewrite d mid → CantBeOpened mode b Append mid → CantBeOpened mode b Append d
+cant_before mode b d mid old between found rewrites cant = by_reason cant
   where
-    numbers : AreNumbered (length (directories_in b)) (names_in b Rewrite)
-    numbers = found_numbered d (Log Rewrite) (directories_in b) (length (directories_in b)) (names_in b Rewrite) (omega arith) found
+    numbers : AreNumbered (length (directories_in b)) (names_in b Append)
+    numbers = found_numbered d (Log Append) (directories_in b) (length (directories_in b)) (names_in b Append) (omega arith) found
 
-    back : HaveSame Rewrite mid d
-    back = turned Rewrite d mid (have_beside Append Rewrite d mid (not_append Rewrite refl) old between appends)
+    back : HaveSame Append mid d
+    back = turned Append d mid (have_beside Rewrite Append d mid (not_rewrite Append refl) old between rewrites)
 
-    by_reason : CantBeOpened mode b Rewrite mid → CantBeOpened mode b Rewrite d
-    by_reason (inl refused) = inl (refused_same Rewrite mid d back between old mode (directories_in b) (length (directories_in b)) (names_in b Rewrite) numbers refused)
-    by_reason (inr aligned) = inr (aligned_same Rewrite mid d back between old (directories_in b) (length (directories_in b)) (names_in b Rewrite) numbers aligned)
+    by_reason : CantBeOpened mode b Append mid → CantBeOpened mode b Append d
+    by_reason (inl refused) = inl (refused_same Append mid d back between old mode (directories_in b) (length (directories_in b)) (names_in b Append) numbers refused)
+    by_reason (inr aligned) = inr (aligned_same Append mid d back between old (directories_in b) (length (directories_in b)) (names_in b Append) numbers aligned)

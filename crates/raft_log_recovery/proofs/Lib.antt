@@ -19,3 +19,5 @@ pub mod AgainLemmas
 pub mod BesideLemmas
 pub mod BothLemmas
 pub mod CorruptLemmas
+pub mod CausedLemmas
+pub mod HoleLemmas

@@ -490,3 +490,8 @@ none_aligned directories queue old mid names fs so plain (name, fd, among, there
 
 pub none_named : (directories : List Text) (queue : LogQueue) (names : List FileName) (d : Disk) → names ≡ [] → AnyAligned directories queue names d → ⊥
 none_named directories queue names d none (name, fd, among, there, any) = subst (IsIn name) none among
+
+-- a pipe has what it was given
+pub set_so : {E : Type 0} (r : Result SinglePipe E) (size said : ℕ) (format told : LogFileFormat) → size ≡ said → format ≡ told → IfOk r (λ p. (p.target_file_size ≡ size) × (p.default_format ≡ format)) → IfOk r (λ p. (p.target_file_size ≡ said) × (p.default_format ≡ told))
+set_so (Ok p) size said format told is so has = (has.0 ∙ is, has.1 ∙ so)
+set_so (Err e) size said format told is so has = tt

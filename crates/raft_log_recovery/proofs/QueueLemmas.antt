@@ -10,6 +10,7 @@ use Rattle.raft_log_records.proofs.Sound.{each_push}
 use Rattle.raft_log_disk.specs.declared.format.HeaderFault.{HeaderFault}
 use Rattle.raft_log_disk.specs.Text.{Text}
 use Rattle.raft_log_disk.specs.Disk.{AreBytes, Disk, FileState, IsIn, IsNamed, IsNoFile, fd_of, with_file}
+use Rattle.raft_log_disk.specs.Format.{header_at}
 use Rattle.raft_log_disk.proofs.DiskLemmas.{number_in, still_is_left}
 use Rattle.raft_log_files.specs.declared.error.CorruptionFault.{CorruptionFault}
 use Rattle.raft_log_files.specs.declared.recovery.RecoveryMode.{RecoveryMode}
@@ -26,7 +27,7 @@ use Rattle.raft_log_recovery.specs.declared.scan.FileName.{FileName}
 use Rattle.raft_log_recovery.specs.Repair.{IsAtRest, IsRepaired, IsStopped, IsWhole, LeavesBatches, batches_in, cuts_faults, fault_in, format_in}
 use Rattle.raft_log_recovery.specs.Replay.{ArePlaced, Placed}
 use Rattle.raft_log_recovery.specs.Queue.{AnyRefused, AreLeft, AreNumbered, AreOpen, AreReadAlike, AreRecovered, AreReplayed, HasRefused, IsFileOf, IsFollowed, IsOpen, IsRecovered, KeepsRefused, OnlyChanges, path_of}
-use Rattle.raft_log_recovery.proofs.RepairLemmas.{batches_by, format_front, leaves_same}
+use Rattle.raft_log_recovery.proofs.RepairLemmas.{batches_by, blank_front, format_front, leaves_same}
 
 -- ---- names
 
@@ -118,6 +119,7 @@ recovered_on queue old cur new (f ∷ fs) same all =
         header = all.0.header;
         whole = subst (λ (x : FileState). IsWhole (id_of queue f.seq) x (batches_in (id_of queue f.seq) (old.file f.handle.0).bytes)) here all.0.whole;
         format = all.0.format ∙ ap (λ (x : FileState). format_in x.bytes) here;
+        blank = λ none. all.0.blank (ap (λ (x : FileState). x.bytes) here ∙ none);
       },
       recovered_on queue old cur new fs (λ g there. same g (inr there)) all.1,
     )
@@ -189,6 +191,8 @@ stepped directories queue count old cur new done behind name f named are only st
         header = step.format ∙ ap (λ (x : FileState). format_in x.bytes) same;
         whole = subst (λ n. IsWhole (id_of queue n) (new.file fd) (batches_in (id_of queue n) (old.file fd).bytes)) (sym step.opened.seq) whole;
         format = step.format ∙ sym (format_front id (cur.file fd).bytes step.fits) ∙ ap format_in (sym (ap (λ (x : FileState). x.bytes) now ∙ step.repaired.front));
+        blank = λ none. subst (λ (x : FileState). (e : HeaderFault) × (header_at x.bytes ≡ Err e)) same
+            (blank_front id (cur.file fd).bytes step.fits (sym step.repaired.front ∙ ap (λ (x : FileState). x.bytes) (sym now) ∙ none));
       };
     }
 

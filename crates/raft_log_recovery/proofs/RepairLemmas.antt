@@ -10,6 +10,7 @@ use Rattle.raft_log_records.specs.declared.version.Version.TheVariants.{V1}
 use Rattle.raft_log_disk.proofs.RecoverableLemmas.{bytes_taken}
 use Rattle.raft_log_disk.specs.declared.format.LogFileFormat.{LogFileFormat}
 use Rattle.raft_log_disk.specs.declared.format.HeaderFault.{HeaderFault}
+use Rattle.raft_log_disk.specs.declared.format.HeaderFault.TheVariants.{CutShort}
 use Rattle.raft_log_disk.specs.Disk.{AreBytes, Disk, FileState, IsIn, PartlyTruncated, after_sync, after_truncate, resized, with_file}
 use Rattle.raft_log_disk.specs.Format.{header_at, header_len, spelled_header}
 use Rattle.raft_log_disk.specs.Image.{IsFileImage, IsOutside, IsStill}
@@ -271,21 +272,34 @@ end_all id bytes fits none = by_header (header_at bytes) refl
         omega (arith, ap end_by reads, ended, length-drop hl bytes, header_within bytes format fits is)
 
 -- the header is as it was
+header_front : (id : FileId) (bytes : List ℕ) (format : LogFileFormat) → AreBytes bytes → header_at bytes ≡ Ok format → header_at (take (end_in id bytes) bytes) ≡ Ok format
+header_front id bytes format fits is =
+    let hl : ℕ = header_len format.version in
+    let body : List ℕ = drop hl bytes in
+    let cut = cut_whole format.alignment (signature_of format.version id.seq) (length body) hl body (omega arith) in
+    let m : ℕ = end_in id bytes - hl in
+    let both : end_in id bytes ≡ hl + m = omega (arith, ap end_by (reading_of id bytes format is), cut.least) in
+    let parts : take (end_in id bytes) bytes ≡ spelled_header format ++ take m body = sym (take-append-drop hl (take (end_in id bytes) bytes))
+    ∙ (λ i. (take-take hl (end_in id bytes) bytes (omega (arith, both)) ∙ (header_spelled bytes format fits is).front) i ++ (ap (λ n. drop hl (take n bytes)) both ∙ drop-take hl m bytes) i) in
+    ap header_at parts ∙ headed bytes (take m body) format fits is
+
+-- so nothing is left only of a file whose header was broken
+pub blank_front : (id : FileId) (bytes : List ℕ) → AreBytes bytes → take (end_in id bytes) bytes ≡ [] → (e : HeaderFault) × (header_at bytes ≡ Err e)
+blank_front id bytes fits none = by_header (header_at bytes) refl
+  where
+    by_header : (r : Result LogFileFormat HeaderFault) → header_at bytes ≡ r → (e : HeaderFault) × (header_at bytes ≡ Err e)
+    by_header (Err e) is = (e, is)
+    by_header (Ok format) is =
+        let bare : header_at [] ≡ Ok format = ap header_at (sym none) ∙ header_front id bytes format fits is in
+        let short : header_at [] ≡ Err CutShort = refl in
+        absurd cc
+
 pub format_front : (id : FileId) (bytes : List ℕ) → AreBytes bytes → format_in (take (end_in id bytes) bytes) ≡ format_in bytes
 format_front id bytes fits = by_header (header_at bytes) refl
   where
     by_header : (r : Result LogFileFormat HeaderFault) → header_at bytes ≡ r → format_in (take (end_in id bytes) bytes) ≡ format_in bytes
     by_header (Err e) is = ap (λ n. format_in (take n bytes)) (ap end_by (no_reading id bytes e is)) ∙ sym (ap (λ h. read_or (λ (x : LogFileFormat). x) (λ (f : HeaderFault). record { version = V1; alignment = 0 }) h) is)
-    by_header (Ok format) is =
-        let hl : ℕ = header_len format.version in
-        let body : List ℕ = drop hl bytes in
-        let cut = cut_whole format.alignment (signature_of format.version id.seq) (length body) hl body (omega arith) in
-        let m : ℕ = end_in id bytes - hl in
-        let both : end_in id bytes ≡ hl + m = omega (arith, ap end_by (reading_of id bytes format is), cut.least) in
-        let parts : take (end_in id bytes) bytes ≡ spelled_header format ++ take m body = sym (take-append-drop hl (take (end_in id bytes) bytes))
-        ∙ (λ i. (take-take hl (end_in id bytes) bytes (omega (arith, both)) ∙ (header_spelled bytes format fits is).front) i ++ (ap (λ n. drop hl (take n bytes)) both ∙ drop-take hl m bytes) i) in
-        let told : header_at (take (end_in id bytes) bytes) ≡ Ok format = ap header_at parts ∙ headed bytes (take m body) format fits is in
-        ap (λ h. read_or (λ (x : LogFileFormat). x) (λ (f : HeaderFault). record { version = V1; alignment = 0 }) h) (told ∙ sym is)
+    by_header (Ok format) is = ap (λ h. read_or (λ (x : LogFileFormat). x) (λ (f : HeaderFault). record { version = V1; alignment = 0 }) h) (header_front id bytes format fits is ∙ sym is)
 
 front_resized : (bytes : List ℕ) (to : ℕ) → to ≤ length bytes → resized bytes to ≡ take to bytes
 front_resized bytes to within =

@@ -153,7 +153,7 @@ module _ (made : Disk) (directories : List Text) (queue : LogQueue) where
 -- ---- a pipe
 
 -- an older file of a list, with its batches
-older_at : (queue : LogQueue) (d : Disk) (fs : List File) (bs : Numbered) (f : File) → AreOlder queue d fs bs → IsIn f fs → (ks : List Batch) × IsOlder queue d f ks
+pub older_at : (queue : LogQueue) (d : Disk) (fs : List File) (bs : Numbered) (f : File) → AreOlder queue d fs bs → IsIn f fs → (ks : List Batch) × IsOlder queue d f ks
 older_at queue d [] bs f os there = absurd there
 older_at queue d (g ∷ fs) bs f (ks, rest, is, o, os) (inl same) = (ks, subst (λ (x : File). IsOlder queue d x ks) (sym same) o)
 older_at queue d (g ∷ fs) bs f (ks, rest, is, o, os) (inr there) = older_at queue d fs rest f os there

@@ -6,3 +6,5 @@ pub mod Opening
 pub mod Crashed
 pub mod Again
 pub mod Both
+pub mod Caused
+pub mod Holes

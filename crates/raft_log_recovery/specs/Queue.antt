@@ -1,11 +1,13 @@
 -- All files of a queue, read whole and repaired in the order of their numbers.
-use Rattle.std.specs.Prelude.{◌≡◌, ℕ, ◌+◌, ◌<◌, List, [], ◌∷◌, ◌++◌, length, map, ◌==◌, false, Some}
+use Rattle.std.specs.Prelude.{◌≡◌, ℕ, ◌+◌, ◌<◌, List, [], ◌∷◌, ◌++◌, length, map, ◌==◌, false, Some, Err}
 use Rattle.std.specs.String.{string_bytes}
 use Rattle.std.specs.List.{AllByRecursion, slice_index_or}
 use Rattle.raft_log_records.specs.declared.file_id.LogQueue.{LogQueue}
 use Rattle.raft_log_records.specs.declared.file_id.LogQueue.TheVariants.{Append, Rewrite}
 use Rattle.raft_log_disk.specs.Text.{Text}
+use Rattle.raft_log_disk.specs.declared.format.HeaderFault.{HeaderFault}
 use Rattle.raft_log_disk.specs.Disk.{Disk, IsIn, fd_of}
+use Rattle.raft_log_disk.specs.Format.{header_at}
 use Rattle.raft_log_files.specs.FileName.{IsFileSeq, log_file_name}
 use Rattle.raft_log_files.specs.declared.error.CorruptionFault.{CorruptionFault}
 use Rattle.raft_log_files.specs.declared.recovery.RecoveryMode.{RecoveryMode}
@@ -57,11 +59,13 @@ abbrev pub AreOpen : Disk → List Text → LogQueue → List FileName → List 
 AreOpen d directories queue [] fs = fs ≡ []
 AreOpen d directories queue (name ∷ names) fs = (f : File) × (rest : List File) × (fs ≡ f ∷ rest) × IsOpen d directories queue name f × AreOpen d directories queue names rest
 
--- the file is whole with the batches that it read as, and has the format that its header says, as it said before
+-- The file is whole with the batches that it read as, and has the format that its header says, as it said before. One that has no
+-- bytes had a broken header, or none
 pub record IsRecovered (queue : LogQueue) (old new : Disk) (f : File) : Type 0 where
   pub header : f.format ≡ format_in (old.file f.handle.0).bytes
   pub whole : IsWhole (id_of queue f.seq) (new.file f.handle.0) (batches_in (id_of queue f.seq) (old.file f.handle.0).bytes)
   pub format : f.format ≡ format_in (new.file f.handle.0).bytes
+  pub blank : (new.file f.handle.0).bytes ≡ [] → (e : HeaderFault) × (header_at (old.file f.handle.0).bytes ≡ Err e)
 
 -- the batches of files, one file after the other, as a machine gets them
 abbrev pub AreReplayed : LogQueue → Disk → List File → List Placed → Type 0

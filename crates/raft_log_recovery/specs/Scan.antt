@@ -96,3 +96,7 @@ abbrev pub IsScanFault : List Text → Disk → Meter → Meter → Error → Ty
 IsScanFault directories d old new e =
     (e ≡ Memory)
     ⊎ (((e ≡ Other NotADirectory) × AnyFile directories d) ⊎ ((e ≡ Io Refused) × (new.refusals ≡ min (old.refusals + 1) (2 ^ 64 - 1))))
+
+-- where nothing is set to refuse, only memory may be missing, or a directory be a file
+abbrev pub IsMadeUnless : Error → Type 0
+IsMadeUnless e = (e ≡ Memory) ⊎ (e ≡ Other NotADirectory)

@@ -1,6 +1,7 @@
 //! Both queues, recovered and opened one beside the other.
 
-ghost use Rattle.std.specs.Prelude.{◌≡◌, ◌++◌, List, Err, IfOk, IsErr};
+ghost use Rattle.std.specs.Prelude.{◌≡◌, ◌++◌, List, Err, IfErr, IfOk, IsErr};
+ghost use Rattle.raft_log_disk.specs.Cause.{NothingRefuses, RefusesNoMore};
 ghost use Rattle.raft_log_files.specs.Settings.{settings_of};
 ghost use Rattle.raft_log_files.specs.declared.error.CorruptionFault.{CorruptionFault};
 ghost use Rattle.raft_log_files.specs.declared.error.Error.TheVariants.{Corruption};
@@ -8,7 +9,7 @@ ghost use Rattle.raft_log_pipe.specs.Others.{KeepsOthers};
 ghost use Rattle.raft_log_pipes.specs.Pipes.{ArePipes};
 ghost use Rattle.raft_log_records.specs.declared.file_id.LogQueue.{LogQueue};
 ghost use Rattle.raft_log_records.specs.declared.file_id.LogQueue.TheVariants.{Append, Rewrite};
-ghost use Rattle.raft_log_recovery.specs.Both.{AreOpened, ArePipesWith, CantBeOpened, IsFoundBy, IsOpened, LeavesBoth, LeavesQueue};
+ghost use Rattle.raft_log_recovery.specs.Both.{AreOpened, ArePipesWith, AreTaken, CantBeOpened, HasFewHoles, HaveFewHoles, IsEitherFault, IsFaultOf, IsFoundBy, IsOpened, LeavesBoth, LeavesQueue};
 ghost use Rattle.raft_log_recovery.specs.Opening.{IsPipeWith};
 ghost use Rattle.raft_log_recovery.specs.Queue.{ChangesAtMost, directories_in, names_in};
 ghost use Rattle.raft_log_recovery.specs.Replay.{Placed};
@@ -40,6 +41,9 @@ impl DualPipesBuilder {
         ensures others { KeepsOthers queue (F.disk files.old) (F.disk files.new) }
         ensures refused { CantBeOpened self.now.config.recovery_mode self.now queue (F.disk files.old) → IsErr result }
         ensures corrupt { (f : CorruptionFault) → result ≡ Err (Corruption f) → CantBeOpened self.now.config.recovery_mode self.now queue (F.disk files.old) }
+        ensures holes { IfOk result (HasFewHoles self.now queue (F.disk files.old) (F.disk files.new)) }
+        ensures later { RefusesNoMore (F.is_bounded files.old) (F.is_bounded files.new) (F.meter files.old) (F.meter files.new) }
+        ensures cause { IfErr result (λ e. IsFaultOf self.now queue (F.disk files.old) (F.disk files.new) (F.is_bounded files.old) (F.meter files.old) (F.meter files.new) e) }
     {
         let config = RecoveryConfig {
             queue,
@@ -51,11 +55,11 @@ impl DualPipesBuilder {
     }
 
     /// Recovers the files of both queues that `scan` found, with one worker, and opens the pipes
-    /// over them (own; raft-engine's `recover` and `finish`). The append queue comes first, so the
-    /// first file of a queue without files is made for it first. The machine that is answered has
-    /// replayed the rewrite queue's batches, then those of the append queue. Errors are those of
-    /// either queue, and `Memory`. Refused or not, an opening that follows finds no other batches of
-    /// either queue than one before would have.
+    /// over them (own; raft-engine's `recover` and `finish`). The rewrite queue comes first, so that
+    /// one machine replays its batches, and then those of the append queue, as they are read. So
+    /// the first file of a queue without files is made for it first, too. Errors are those of either
+    /// queue, and `Memory`. Refused or not, an opening that follows finds no other batches of either
+    /// queue than one before would have.
     pub fn recover_alone<F: FileSystem, M: ReplayMachine + Drop, T: Factory<M>>(
         &self,
         files: &mut F,
@@ -70,12 +74,14 @@ impl DualPipesBuilder {
         ensures leaves { LeavesBoth self.now.config.recovery_mode self.now (F.disk files.old) (F.disk files.new) }
         ensures refused { (queue : LogQueue) → CantBeOpened self.now.config.recovery_mode self.now queue (F.disk files.old) → IsErr result }
         ensures corrupt { (f : CorruptionFault) → result ≡ Err (Corruption f) → (queue : LogQueue) × CantBeOpened self.now.config.recovery_mode self.now queue (F.disk files.old) }
+        ensures holes { IfOk result (λ r. HaveFewHoles self.now (F.disk files.old) (F.disk files.new) r.0) }
+        ensures later { RefusesNoMore (F.is_bounded files.old) (F.is_bounded files.new) (F.meter files.old) (F.meter files.new) }
+        ensures cause { IfErr result (λ e. IsEitherFault self.now (F.disk files.old) (F.disk files.new) (F.is_bounded files.old) (F.meter files.old) (F.meter files.new) e) }
+        ensures taken { NothingRefuses (F.is_bounded files.old) (F.meter files.old) → AreTaken self.now (F.disk files.old) (F.disk files.new) result }
     {
-        let mut behind = factory.new_target();
-        let append = self.open_alone(files, LogQueue::Append, &mut behind)?;
         let mut machine = factory.new_target();
         let rewrite = self.open_alone(files, LogQueue::Rewrite, &mut machine)?;
-        machine.merge(behind)?;
+        let append = self.open_alone(files, LogQueue::Append, &mut machine)?;
         Ok((DualPipes::open(append, rewrite), machine))
     }
 }

@@ -2,9 +2,10 @@
 
 ghost use Rattle.std.specs.Prelude.{◌≡◌, [], map, IfErr, IsErr, OnOk, OnErr, string_bytes};
 ghost use Rattle.raft_log_records.specs.declared.file_id.LogQueue.TheVariants.{Append, Rewrite};
+ghost use Rattle.raft_log_disk.specs.Cause.{NothingRefuses, RefusesNoMore};
 ghost use Rattle.raft_log_files.specs.Settings.{settings_of};
 ghost use Rattle.raft_log_recovery.specs.declared.scan.FileKind.TheVariants.{Log, Reserved};
-ghost use Rattle.raft_log_recovery.specs.Scan.{AllMade, AnyFile, AreFound, IsScanFault, OnlyMakes, directories_of};
+ghost use Rattle.raft_log_recovery.specs.Scan.{AllMade, AnyFile, AreFound, IsMadeUnless, IsScanFault, OnlyMakes, directories_of};
 
 use crate::directories::{directories_in, make_directories};
 use crate::scan::{FileKind, FileName, find_files};
@@ -55,6 +56,8 @@ impl DualPipesBuilder {
         ensures only { OnlyMakes (directories_of (settings_of self.old.config)) (F.disk files.old) (F.disk files.new) }
         ensures file { AnyFile (directories_of (settings_of self.old.config)) (F.disk files.old) → IsErr result }
         ensures err { IfErr result (λ e. IsScanFault (directories_of (settings_of self.old.config)) (F.disk files.old) (F.meter files.old) (F.meter files.new) e) }
+        ensures later { RefusesNoMore (F.is_bounded files.old) (F.is_bounded files.new) (F.meter files.old) (F.meter files.new) }
+        ensures taken { NothingRefuses (F.is_bounded files.old) (F.meter files.old) → IfErr result IsMadeUnless }
         ensures kept { OnErr result (self.new ≡ self.old) }
     {
         let directories = directories_in(self.alloc, &self.config)?;

@@ -1,11 +1,12 @@
 //! The directories of the log, which an opening makes.
 
 ghost use Rattle.std.specs.Prelude.{◌≡◌, ◌⊎◌, ◌∷◌, [], map, IfOk, OnOk, IfErr, IsErr, Err, string_bytes};
+ghost use Rattle.raft_log_disk.specs.Cause.{NothingRefuses, RefusesNoMore};
 ghost use Rattle.raft_log_disk.specs.Disk.{IsIn, IsFile};
 ghost use Rattle.raft_log_files.specs.Settings.{settings_of};
 ghost use Rattle.raft_log_files.specs.declared.error.Error.TheVariants.{Other};
 ghost use Rattle.raft_log_files.specs.declared.error.OtherFault.TheVariants.{NotADirectory};
-ghost use Rattle.raft_log_recovery.specs.Scan.{AllMade, AnyFile, IsScanFault, OnlyMakes, directories_of};
+ghost use Rattle.raft_log_recovery.specs.Scan.{AllMade, AnyFile, IsMadeUnless, IsScanFault, OnlyMakes, directories_of};
 
 use raft_log_files::{Config, Error, FileSystem, OtherFault};
 use std::alloc::{AllocError, Global};
@@ -31,6 +32,8 @@ fn make_directory<F: FileSystem>(files: &mut F, path: &str) -> Result<(), Error>
     ensures file { IsFile (F.disk files.old) path.now → result ≡ Err (Other NotADirectory) }
     ensures counted { OnOk result ((F.meter files.new).refusals ≡ (F.meter files.old).refusals) }
     ensures err { IfErr result (λ e. IsScanFault (path.now ∷ []) (F.disk files.old) (F.meter files.old) (F.meter files.new) e) }
+    ensures later { RefusesNoMore (F.is_bounded files.old) (F.is_bounded files.new) (F.meter files.old) (F.meter files.new) }
+    ensures taken { NothingRefuses (F.is_bounded files.old) (F.meter files.old) → IfErr result IsMadeUnless }
 {
     if files.is_file(path) {
         return Err(Error::Other(OtherFault::NotADirectory));
@@ -51,6 +54,8 @@ pub(crate) fn make_directories<F: FileSystem>(files: &mut F, paths: &[String]) -
     ensures file { AnyFile (map string_bytes paths.now) (F.disk files.old) → IsErr result }
     ensures counted { OnOk result ((F.meter files.new).refusals ≡ (F.meter files.old).refusals) }
     ensures err { IfErr result (λ e. IsScanFault (map string_bytes paths.now) (F.disk files.old) (F.meter files.old) (F.meter files.new) e) }
+    ensures later { RefusesNoMore (F.is_bounded files.old) (F.is_bounded files.new) (F.meter files.old) (F.meter files.new) }
+    ensures taken { NothingRefuses (F.is_bounded files.old) (F.meter files.old) → IfErr result IsMadeUnless }
 {
     match paths {
         [] => Ok(()),

@@ -15,6 +15,6 @@ mod scan;
 
 pub use builder::DualPipesBuilder;
 pub use laws::{any_fault_is_tolerated, crashed_pipes_are_found, one_directory_is_enough};
-pub use machine::{DefaultMachineFactory, Factory, NewMachine, ReplayMachine};
+pub use machine::{DefaultMachineFactory, Factory, MergeMachine, NewMachine, ReplayMachine};
 pub use recover::recover_file;
 pub use scan::{FileKind, FileName};

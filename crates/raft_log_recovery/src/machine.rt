@@ -10,8 +10,7 @@ use raft_log_records::{FileBlockHandle, LogItemBatch};
 use std::alloc::Global;
 
 /// A machine into which batches of log files are replayed in their order (raft-engine's
-/// `ReplayMachine`). Parts replayed into several machines and merged in the order of their files
-/// are as one replay of all.
+/// `ReplayMachine`).
 pub trait ReplayMachine {
     /// The machine has replayed just these batches.
     ghost has_replayed: { Self → List Placed → Type 0 };
@@ -22,7 +21,11 @@ pub trait ReplayMachine {
         ensures replayed { OnOk result ((placed : List Placed) → has_replayed self.old placed
             → has_replayed self.new (placed ++ record { handle = handle; items = items_of batch.items.items } ∷ [])) }
         ensures err { IfErr result (λ e. e ≡ Memory) };
+}
 
+/// A machine whose parts can be replayed each by itself (own; raft-engine has this in
+/// `ReplayMachine`): merged in the order of their files they are as one replay of all.
+pub trait MergeMachine: ReplayMachine {
     /// Adds what a machine has replayed that was given the batches behind those of this one. After
     /// an `Err` the machine is given up. The only error is want of memory.
     fn merge(&mut self, behind: Self) -> Result<(), Error>

@@ -1,7 +1,8 @@
 //! From recovered files to a pipe.
 
-ghost use Rattle.std.specs.Prelude.{◌≡◌, ◌++◌, ◌==◌, List, map, string_bytes, Err, IfOk, IsErr, OnErr};
+ghost use Rattle.std.specs.Prelude.{◌≡◌, ◌++◌, ◌==◌, List, map, string_bytes, Err, IfErr, IfOk, IsErr, OnErr};
 ghost use Rattle.std.specs.List.{list_all};
+ghost use Rattle.raft_log_disk.specs.Cause.{NothingRefuses, RefusesNoMore};
 ghost use Rattle.raft_log_files.specs.Settings.{settings_of};
 ghost use Rattle.raft_log_files.specs.declared.error.CorruptionFault.{CorruptionFault};
 ghost use Rattle.raft_log_files.specs.declared.error.Error.TheVariants.{Corruption};
@@ -11,7 +12,8 @@ ghost use Rattle.raft_log_pipe.specs.Pipe.{IsPipe};
 ghost use Rattle.raft_log_recovery.specs.declared.scan.FileKind.TheVariants.{Log};
 ghost use Rattle.raft_log_recovery.specs.Scan.{AreFound, directories_of};
 ghost use Rattle.raft_log_recovery.specs.Again.{FindsAsBefore};
-ghost use Rattle.raft_log_recovery.specs.Both.{CantBeOpened};
+ghost use Rattle.raft_log_recovery.specs.Both.{CantBeOpened, IsFaultOf, IsSetBy, IsTaken};
+ghost use Rattle.raft_log_recovery.specs.Holes.{HolesOnlyBroken};
 ghost use Rattle.raft_log_recovery.specs.Replay.{Placed};
 ghost use Rattle.raft_log_recovery.specs.Queue.{AnyRefused, AreLeft, ChangesAtMost, KeepsRefused, directories_in, names_in};
 ghost use Rattle.raft_log_recovery.specs.Opening.{AnyAligned, IsPipeWith};
@@ -59,6 +61,7 @@ impl DualPipesBuilder {
         ensures pipe { IfOk result (λ p. IsPipe p (F.disk files.new)) }
         ensures queue { IfOk result (λ p. p.queue ≡ config.now.queue) }
         ensures paths { IfOk result (λ p. directories_of_pipe p ≡ directories_in self.now) }
+        ensures settings { IfOk result (IsSetBy self.now) }
         ensures alone { IfOk result (λ p. IsOnce (F.disk files.old).names (directories_in self.now) config.now.queue → IsAlone p (F.disk files.new)) }
         ensures replayed { IfOk result (λ p. (placed : List Placed) → M.has_replayed machine.old placed
             → (more : List Placed) × M.has_replayed machine.new (placed ++ more)
@@ -71,6 +74,10 @@ impl DualPipesBuilder {
         ensures aligned { AnyAligned (directories_in self.now) config.now.queue (names_in self.now config.now.queue) (F.disk files.old) → IsErr result }
         ensures kept { OnErr result (KeepsRefused config.now.mode (directories_in self.now) config.now.queue (names_in self.now config.now.queue) (F.disk files.old) (F.disk files.new)) }
         ensures corrupt { (f : CorruptionFault) → result ≡ Err (Corruption f) → CantBeOpened config.now.mode self.now config.now.queue (F.disk files.old) }
+        ensures holes { IfOk result (HolesOnlyBroken config.now.mode (directories_in self.now) config.now.queue (names_in self.now config.now.queue) (F.disk files.old) (F.disk files.new)) }
+        ensures later { RefusesNoMore (F.is_bounded files.old) (F.is_bounded files.new) (F.meter files.old) (F.meter files.new) }
+        ensures cause { IfErr result (λ e. IsFaultOf self.now config.now.queue (F.disk files.old) (F.disk files.new) (F.is_bounded files.old) (F.meter files.old) (F.meter files.new) e) }
+        ensures taken { NothingRefuses (F.is_bounded files.old) (F.meter files.old) → IsTaken self.now config.now.queue (F.disk files.old) (F.disk files.new) result }
     {
         let recovered = self.recover_queue(files, config, machine)?;
         if !are_plain(&recovered) {

@@ -1,13 +1,17 @@
 //! All files of a queue, recovered in the order of their numbers.
 
-ghost use Rattle.std.specs.Prelude.{◌≡◌, ◌++◌, ◌<◌, List, length, map, string_bytes, Err, IfOk, IsErr, OnOk, OnErr};
+ghost use Rattle.std.specs.Prelude.{◌≡◌, ◌++◌, ◌<◌, List, length, map, string_bytes, None, Err, IfErr, IfOk, IsErr, OnOk, OnErr};
+ghost use Rattle.raft_log_disk.specs.Cause.{NothingRefuses, RefusesNoMore};
+ghost use Rattle.raft_log_disk.specs.Disk.{fd_of};
 ghost use Rattle.raft_log_files.specs.declared.error.CorruptionFault.{CorruptionFault};
 ghost use Rattle.raft_log_files.specs.declared.error.Error.TheVariants.{Corruption};
 ghost use Rattle.raft_log_files.specs.FileName.{IsFileSeq};
+ghost use Rattle.raft_log_recovery.specs.Caused.{AreEachRefused, IsCallFault, IsRecoveryTaken};
+ghost use Rattle.raft_log_recovery.specs.Both.{IsFaultInFiles};
 ghost use Rattle.raft_log_recovery.specs.declared.scan.FileKind.TheVariants.{Log};
 ghost use Rattle.raft_log_recovery.specs.Scan.{AreFound};
 ghost use Rattle.raft_log_recovery.specs.Replay.{Placed};
-ghost use Rattle.raft_log_recovery.specs.Queue.{AnyRefused, AreLeft, AreNumbered, AreReadAlike, AreRecovered, AreReplayed, IsFileOf, KeepsRefused, OnlyChanges, directories_in, names_in};
+ghost use Rattle.raft_log_recovery.specs.Queue.{AnyRefused, AreLeft, AreNumbered, AreReadAlike, AreRecovered, AreReplayed, IsFileOf, KeepsRefused, OnlyChanges, directories_in, names_in, path_of};
 
 use crate::builder::DualPipesBuilder;
 use crate::machine::ReplayMachine;
@@ -31,6 +35,9 @@ fn open_file<F: FileSystem>(
     ensures ok { IfOk result (λ fd. IsFileOf (F.disk files.old) (map string_bytes directories.now) queue name fd.0) }
     ensures kept { F.disk files.new ≡ F.disk files.old }
     ensures corrupt { (f : CorruptionFault) → result ≡ Err (Corruption f) → ⊥ }
+    ensures later { RefusesNoMore (F.is_bounded files.old) (F.is_bounded files.new) (F.meter files.old) (F.meter files.new) }
+    ensures cause { IfErr result (λ e. IsCallFault (fd_of (F.disk files.old).names (path_of (map string_bytes directories.now) queue name) ≡ None)
+        (F.is_bounded files.old) (F.meter files.old) (F.meter files.new) e) }
 {
     let id = FileId::new(queue, name.seq);
     let path = id.build_file_path(alloc, directories[name.path_id].as_str())?;
@@ -57,6 +64,9 @@ fn recover_each<F: FileSystem, M: ReplayMachine>(
     ensures refused { AnyRefused config.now.mode (map string_bytes directories.now) config.now.queue names.now (F.disk files.old) → IsErr result }
     ensures kept { OnErr result (KeepsRefused config.now.mode (map string_bytes directories.now) config.now.queue names.now (F.disk files.old) (F.disk files.new)) }
     ensures corrupt { (f : CorruptionFault) → result ≡ Err (Corruption f) → AnyRefused config.now.mode (map string_bytes directories.now) config.now.queue names.now (F.disk files.old) }
+    ensures later { RefusesNoMore (F.is_bounded files.old) (F.is_bounded files.new) (F.meter files.old) (F.meter files.new) }
+    ensures cause { IfErr result (λ e. AreEachRefused (F.disk files.old) (map string_bytes directories.now) config.now.queue names.now
+        (F.is_bounded files.old) (F.meter files.old) (F.meter files.new) e) }
 {
     let mut recovered = Vec::new(alloc);
     for name in names {
@@ -107,6 +117,9 @@ impl DualPipesBuilder {
         ensures kept { OnErr result (KeepsRefused config.now.mode (directories_in self.now) config.now.queue (names_in self.now config.now.queue) (F.disk files.old) (F.disk files.new)) }
         ensures corrupt { (f : CorruptionFault) → result ≡ Err (Corruption f)
             → AnyRefused config.now.mode (directories_in self.now) config.now.queue (names_in self.now config.now.queue) (F.disk files.old) }
+        ensures later { RefusesNoMore (F.is_bounded files.old) (F.is_bounded files.new) (F.meter files.old) (F.meter files.new) }
+        ensures cause { IfErr result (λ e. IsFaultInFiles self.now config.now.queue (F.is_bounded files.old) (F.meter files.old) (F.meter files.new) e) }
+        ensures taken { NothingRefuses (F.is_bounded files.old) (F.meter files.old) → IsRecoveryTaken ⊥ ⊥ result }
     {
         let names = self.names_of(config.queue);
         recover_each(files, self.alloc, machine, config, &self.directories, names)

@@ -1,9 +1,11 @@
 //! A whole log file, read into a machine.
 
 ghost use Rattle.std.specs.Prelude.{◌≡◌, ◌++◌, List, Option, Some, Ok, Err, IfOk, IfErr, OnOk};
+ghost use Rattle.raft_log_file.specs.declared.batches.OpenFile.{OpenFile};
 ghost use Rattle.raft_log_file.specs.Reader.{IsReader, held_bytes, left};
 ghost use Rattle.raft_log_files.specs.declared.error.CorruptionFault.{CorruptionFault};
 ghost use Rattle.raft_log_files.specs.declared.error.Error.TheVariants.{Corruption};
+ghost use Rattle.raft_log_recovery.specs.Caused.{IsReplayFault};
 ghost use Rattle.raft_log_recovery.specs.Repair.{batches_in, end_in, fault_in, format_in};
 ghost use Rattle.raft_log_recovery.specs.Replay.{Placed, ArePlaced};
 
@@ -36,6 +38,7 @@ fn replay_left<F: FileSystem, M: ReplayMachine>(
     ensures replayed { OnOk result ((placed : List Placed) → M.has_replayed machine.old placed
         → (more : List Placed) × M.has_replayed machine.new (placed ++ more) × ArePlaced id (held_bytes reader.old (F.disk files.now)) (left reader.old (F.disk files.now)).batches more) }
     ensures corrupt { (f : CorruptionFault) → result ≡ Err (Corruption f) → ⊥ }
+    ensures err { (file : OpenFile) → reader.old.file ≡ Some file → IfErr result (λ e. IsReplayFault (F.disk files.now) (F.meter files.now) file.fd.0 e) }
 {
     'batches: loop {
         match reader.next(files, alloc) {
@@ -70,6 +73,7 @@ pub(crate) fn replay_file<F: FileSystem, M: ReplayMachine>(
         → (more : List Placed) × M.has_replayed machine.new (placed ++ more)
         × ArePlaced id ((F.disk files.now).file fd.0).bytes (batches_in id ((F.disk files.now).file fd.0).bytes) more) }
     ensures corrupt { (f : CorruptionFault) → result ≡ Err (Corruption f) → ⊥ }
+    ensures err { IfErr result (λ e. IsReplayFault (F.disk files.now) (F.meter files.now) fd.0 e) }
 {
     let reader = build_file_reader(fd);
     let format = match reader.parse_format(files, alloc) {

@@ -1,9 +1,11 @@
 //! One log file of a queue: read whole into a machine, and repaired.
 
-ghost use Rattle.std.specs.Prelude.{◌≡◌, ◌++◌, false, List, Option, Some, Err, IfOk, IsErr, OnOk, OnErr};
+ghost use Rattle.std.specs.Prelude.{◌≡◌, ◌++◌, false, List, Option, Some, Err, IfErr, IfOk, IsErr, OnOk, OnErr};
+ghost use Rattle.raft_log_disk.specs.Cause.{NothingRefuses, RefusesNoMore};
 ghost use Rattle.raft_log_disk.specs.Disk.{IsNoFile};
 ghost use Rattle.raft_log_files.specs.declared.error.CorruptionFault.{CorruptionFault};
 ghost use Rattle.raft_log_files.specs.declared.error.Error.TheVariants.{Corruption};
+ghost use Rattle.raft_log_recovery.specs.Caused.{IsFileFault, IsRecoveryTaken};
 ghost use Rattle.raft_log_recovery.specs.Repair.{IsRepaired, IsStopped, batches_in, cuts_faults, fault_in, format_in};
 ghost use Rattle.raft_log_recovery.specs.Replay.{Placed, ArePlaced};
 
@@ -38,6 +40,9 @@ pub fn recover_file<F: FileSystem, M: ReplayMachine>(
         → IsErr result × (F.disk files.new ≡ F.disk files.old) }
     ensures corrupt { (f : CorruptionFault) → result ≡ Err (Corruption f)
         → (fault_in id ((F.disk files.old).file fd.0).bytes ≡ Some f) × (cuts_faults config.now.mode is_last ≡ false) }
+    ensures later { RefusesNoMore (F.is_bounded files.old) (F.is_bounded files.new) (F.meter files.old) (F.meter files.new) }
+    ensures cause { IfErr result (λ e. IsFileFault (F.disk files.old) fd.0 (F.is_bounded files.old) (F.meter files.old) (F.meter files.new) e) }
+    ensures taken { NothingRefuses (F.is_bounded files.old) (F.meter files.old) → IsRecoveryTaken ⊥ ⊥ result }
 {
     let read = replay_file(files, alloc, machine, id, fd, config.read_block_size)?;
     repair(files, id, fd, read.end, config.mode, is_last)?;

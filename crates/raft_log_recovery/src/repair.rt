@@ -1,9 +1,11 @@
 //! One log file: cut where its whole records end, by the mode, and synced.
 
-ghost use Rattle.std.specs.Prelude.{◌≡◌, false, Option, Some, None, Ok, Err, OnOk, OnErr};
+ghost use Rattle.std.specs.Prelude.{◌≡◌, false, Option, Some, None, Ok, Err, IfErr, OnOk, OnErr};
+ghost use Rattle.raft_log_disk.specs.Cause.{RefusesNoMore};
 ghost use Rattle.raft_log_disk.specs.Disk.{AreBytes, Disk, IsNoFile};
 ghost use Rattle.raft_log_files.specs.declared.error.CorruptionFault.{CorruptionFault};
 ghost use Rattle.raft_log_files.specs.declared.error.Error.TheVariants.{Corruption};
+ghost use Rattle.raft_log_recovery.specs.Caused.{IsCallFault, IsRecoveryFault, IsRefusal};
 ghost use Rattle.raft_log_recovery.specs.Repair.{IsRepaired, IsStopped, Settles, batches_in, cuts_faults, end_in, fault_in};
 
 use raft_log_files::{CorruptionFault, Error, Fd, FileSystem, RecoveryMode};
@@ -24,6 +26,8 @@ fn cuts(mode: RecoveryMode, is_last: bool) -> bool
 fn settle<F: FileSystem>(files: &mut F, fd: Fd, cut: Option<u64>) -> Result<(), Error>
     ensures settles { Settles result (F.disk files.old) (F.disk files.new) fd.0 cut }
     ensures sound { (f : CorruptionFault) → result ≡ Err (Corruption f) → ⊥ }
+    ensures later { RefusesNoMore (F.is_bounded files.old) (F.is_bounded files.new) (F.meter files.old) (F.meter files.new) }
+    ensures cause { IfErr result (λ e. IsCallFault (IsNoFile (F.disk files.old) fd.0) (F.is_bounded files.old) (F.meter files.old) (F.meter files.new) e) }
 {
     match cut {
         None => {
@@ -66,6 +70,8 @@ pub(crate) fn repair<F: FileSystem>(
         → (result ≡ Err (Corruption f)) × (F.disk files.new ≡ F.disk files.old) }
     ensures corrupt { (f : CorruptionFault) → result ≡ Err (Corruption f)
         → (fault_in id ((F.disk files.old).file fd.0).bytes ≡ Some f) × (cuts_faults mode is_last ≡ false) }
+    ensures later { RefusesNoMore (F.is_bounded files.old) (F.is_bounded files.new) (F.meter files.old) (F.meter files.new) }
+    ensures cause { IfErr result (λ e. IsRecoveryFault (IsRefusal (F.is_bounded files.old) ⊥ (F.meter files.old) (F.meter files.new)) (IsNoFile (F.disk files.old) fd.0) e) }
 {
     match end.fault {
         None => settle(files, fd, None),

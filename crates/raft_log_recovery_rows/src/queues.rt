@@ -10,7 +10,7 @@ use raft_log_memtables::MemTables;
 use raft_log_pipe::SinglePipe;
 use raft_log_records::{LogQueue, ReadableSize};
 use raft_log_recovery::{DefaultMachineFactory, DualPipesBuilder, Factory};
-use raft_log_replay::ReplayedBatches;
+use raft_log_replay::ReplayedTables;
 use raft_rows::number;
 use std::alloc::{AllocError, Global};
 
@@ -39,7 +39,7 @@ fn open<F: FileSystem>(
     files: &mut F,
     alloc: Global,
     mode: RecoveryMode,
-) -> Result<(SinglePipe, ReplayedBatches), Error>
+) -> Result<(SinglePipe, ReplayedTables), Error>
     ensures { IfOk result (λ r. IsPipe r.0 (F.disk files.new)) }
 {
     let mut builder = DualPipesBuilder::new(alloc, config_of(alloc, mode)?);
@@ -51,7 +51,7 @@ fn open<F: FileSystem>(
         read_block_size: 512,
     };
     let factory = DefaultMachineFactory::new(alloc);
-    let mut machine: ReplayedBatches = factory.new_target();
+    let mut machine: ReplayedTables = factory.new_target();
     let pipe = builder.open_queue(files, &config, &mut machine)?;
     Ok((pipe, machine))
 }
@@ -125,7 +125,7 @@ fn show<F: FileSystem>(
     count: u8,
 ) -> Result<Opened, Error> {
     let (mut pipe, machine) = open(files, alloc, mode)?;
-    let tables = machine.finish(alloc, MemTables::new(alloc))?;
+    let tables = machine.finish();
     let span = pipe.file_span();
     let keys = keys_in(alloc, &tables, count)?;
     put(files, alloc, &mut pipe, count, 8)?;

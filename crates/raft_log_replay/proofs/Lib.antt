@@ -1,1 +1,1 @@
-pub mod BatchLemmas
+pub mod TableLemmas

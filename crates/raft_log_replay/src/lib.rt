@@ -1,6 +1,6 @@
-//! The batches of a queue's files, replayed into memtables.
+//! The batches of a queue's log files, replayed into memtables.
 #![tactic(auto)]
 
-mod batches;
+mod tables;
 
-pub use batches::ReplayedBatches;
+pub use tables::ReplayedTables;

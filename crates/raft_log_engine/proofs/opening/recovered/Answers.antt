@@ -5,12 +5,10 @@ use Rattle.raft_log_disk.proofs.CauseLemmas.{at_err}
 use Rattle.raft_log_disk.specs.Text.{Text}
 use Rattle.raft_log_files.specs.Settings.{settings_of}
 use Rattle.raft_log_files.specs.declared.config.Config.{Config}
-use Rattle.raft_log_memtables.specs.Content.{nothing}
 use Rattle.raft_log_records.specs.declared.file_id.LogQueue.TheVariants.{Append, Rewrite}
 use Rattle.raft_log_recovery.specs.declared.scan.FileKind.TheVariants.{Log}
 use Rattle.raft_log_recovery.specs.Queue.{directories_in, names_in}
 use Rattle.raft_log_recovery.specs.Scan.{AreFound, OnlyMakes, directories_of}
-use Rattle.raft_log_replay.specs.Batches.{content_over, placed_in}
 use Rattle.raft_log_engine.specs.Opening.{IsFoundAgain, IsLeftByOpening}
 use Rattle.raft_log_engine.proofs.Again.{made_again}
 use Rattle.raft_log_engine.proofs.Opened.{both_again, both_left, recovered_as}
@@ -66,34 +64,6 @@ returns-in_err-pipes-clause-reads g c =
     at_err c.from_residual-in_err-pipes.result (IsFoundAgain c.args.config.recovery_mode said d new)
     (both_again b c.args.config.recovery_mode said at alike d made makes new c.recover_alone.ensures.leaves)
 
-pub returns-in_err-tables-clause-err : goal.returns-in_err-tables-clause-err
-returns-in_err-tables-clause-err g c =
-    let said = directories_of (settings_of c.args.config) in
-    let d = g.F.FileSystem.disk c.args.files.now in
-    let b = c.scan.new.self in
-    let made = g.F.FileSystem.disk c.scan.new.files in
-    let new = g.F.FileSystem.disk c.recover_alone.new.files in
-    let at = c.in_ok-scan.ensures.directories ∙ ap (λ (k : Config). directories_of (settings_of k)) c.new-builder.ensures.config in
-    let alike = ap (λ (k : Config). k.recovery_mode) (c.in_ok-scan.ensures.config ∙ c.new-builder.ensures.config) in
-    let makes = subst (λ (k : Config). OnlyMakes (directories_of (settings_of k)) d made) c.new-builder.ensures.config c.in_ok-scan.ensures.only in
-    let append = subst (λ (l : List Text). AreFound made (Log Append) l (names_in b Append)) (sym c.in_ok-scan.ensures.directories) c.in_ok-scan.ensures.append in
-    let rewrite = subst (λ (l : List Text). AreFound made (Log Rewrite) l (names_in b Rewrite)) (sym c.in_ok-scan.ensures.directories) c.in_ok-scan.ensures.rewrite in
-    at_err c.from_residual-in_err-tables.result (IsLeftByOpening c.args.config.recovery_mode said d new)
-    (inr (both_left b c.args.config.recovery_mode said at alike d made makes new append rewrite c.recover_alone.ensures.leaves))
-
-pub returns-in_err-tables-clause-reads : goal.returns-in_err-tables-clause-reads
-returns-in_err-tables-clause-reads g c =
-    let said = directories_of (settings_of c.args.config) in
-    let d = g.F.FileSystem.disk c.args.files.now in
-    let b = c.scan.new.self in
-    let made = g.F.FileSystem.disk c.scan.new.files in
-    let new = g.F.FileSystem.disk c.recover_alone.new.files in
-    let at = c.in_ok-scan.ensures.directories ∙ ap (λ (k : Config). directories_of (settings_of k)) c.new-builder.ensures.config in
-    let alike = ap (λ (k : Config). k.recovery_mode) (c.in_ok-scan.ensures.config ∙ c.new-builder.ensures.config) in
-    let makes = subst (λ (k : Config). OnlyMakes (directories_of (settings_of k)) d made) c.new-builder.ensures.config c.in_ok-scan.ensures.only in
-    at_err c.from_residual-in_err-tables.result (IsFoundAgain c.args.config.recovery_mode said d new)
-    (both_again b c.args.config.recovery_mode said at alike d made makes new c.recover_alone.ensures.leaves)
-
 pub returns-clause-ok : goal.returns-clause-ok
 returns-clause-ok g c =
     let said = directories_of (settings_of c.args.config) in
@@ -107,10 +77,8 @@ returns-clause-ok g c =
     let append = subst (λ (l : List Text). AreFound made (Log Append) l (names_in b Append)) (sym c.in_ok-scan.ensures.directories) c.in_ok-scan.ensures.append in
     let rewrite = subst (λ (l : List Text). AreFound made (Log Rewrite) l (names_in b Rewrite)) (sym c.in_ok-scan.ensures.directories) c.in_ok-scan.ensures.rewrite in
     let all = c.in_ok-pipes.ensures.replayed in
-    recovered_as b c.args.config.recovery_mode said at alike d made makes new c.in_ok-pipes.pipes all.0 c.in_ok-tables.tables append rewrite (λ queue cant. false≢true (c.in_ok-pipes.ensures.refused queue cant)) c.in_ok-pipes.ensures.pipes all.2
-    (c.in_ok-tables.ensures.content
-    ∙ ap (λ x. content_over x (placed_in c.in_ok-pipes.machine)) c.new.ensures.content
-    ∙ ap (content_over nothing) all.1)
+    recovered_as b c.args.config.recovery_mode said at alike d made makes new c.in_ok-pipes.pipes all.0 c.finish.result append rewrite (λ queue cant. false≢true (c.in_ok-pipes.ensures.refused queue cant)) c.in_ok-pipes.ensures.pipes all.2
+    (c.finish.ensures.content all.0 all.1)
 
 pub returns-clause-paths : goal.returns-clause-paths
 returns-clause-paths g c =

@@ -10,6 +10,17 @@ use Rattle.raft_log_recovery.proofs.QueueLemmas.{NoneRefused, Replays, alike_at,
 use Rattle.raft_log_recovery.proofs.ReplayLemmas.{file_fits}
 use Rattle.raft_log_recovery.proofs.TurnLemmas.{Turn, done_alike, done_kept, done_left, done_none, done_of, done_only, done_recovered, done_replays, file_at, is_file, stopped_alike, stopped_kept, stopped_left, stopped_only, turn_of}
 use Rattle.raft_log_recovery.proofs.CorruptLemmas.{memory_sound, passed_on, refused_at}
+use Rattle.std.proofs.Common.{◌⊎◌, inl, inr, ℕ, None, get_or, ap}
+use Rattle.raft_log_disk.specs.Disk.{HasOneOf, fd_of}
+use Rattle.raft_log_disk.specs.Cause.{RefusesNoMore}
+use Rattle.raft_log_disk.proofs.RefusalLemmas.{no_more_then}
+use Rattle.raft_log_files.specs.declared.error.Error.{Error}
+use Rattle.raft_log_files.specs.declared.error.Error.TheVariants.{Memory}
+use Rattle.raft_log_recovery.specs.declared.scan.FileName.{FileName}
+use Rattle.raft_log_recovery.specs.Caused.{AnyUnreadable, AreFilesRefused, IsMissing, IsRefusal}
+use Rattle.raft_log_recovery.specs.Queue.{IsFileOf, path_of}
+use Rattle.raft_log_pipe.proofs.CausedLemmas.{caused_for, told_cause}
+use Rattle.raft_log_recovery.proofs.CausedLemmas.{at_in, recovery_for, refusal_then, unreadable_at}
 use Rattle.raft_log_recovery.proofs.queue.recover_each.Goals as goal
 
 pub open_file-requires-clause-seq : goal.open_file-requires-clause-seq
@@ -116,6 +127,7 @@ loop-name-preserved g c =
           (done_replays t f (g.F.FileSystem.disk c.recover_file.new.files) done (g.M.ReplayMachine.has_replayed c.args.machine.now) (g.M.ReplayMachine.has_replayed c.loop-name.machine) (g.M.ReplayMachine.has_replayed c.recover_file.new.machine)
           (subst (λ (x : Disk). Replays (g.M.ReplayMachine.has_replayed c.args.machine.now) (g.M.ReplayMachine.has_replayed c.loop-name.machine) t.queue x c.loop-name.recovered.items) (sym c.open_file.ensures.kept) c.loop-name.invariant.replayed)
           c.in_ok-format.ensures.replayed);
+      later = no_more_then c.loop-name.invariant.later (no_more_then c.in_ok-fd.ensures.later c.in_ok-format.ensures.later);
       none = done_none t f (g.F.FileSystem.disk c.recover_file.new.files) done c.len.result (c.len.ensures ∙ c.loop-name.invariant.count) (λ fault is refused. false≢true (c.in_ok-format.ensures.refused fault is refused).0) c.loop-name.invariant.none;
     }
 
@@ -171,3 +183,61 @@ pub returns-in_err-push-clause-corrupt : goal.returns-in_err-push-clause-corrupt
 returns-in_err-push-clause-corrupt g c =
     memory_sound (λ (f : CorruptionFault). AnyRefused c.args.config.now.mode (map string_bytes c.args.directories.now) c.args.config.now.queue c.args.names.now (g.F.FileSystem.disk c.args.files.now))
     c.from_residual-in_err-push.result c.from_residual-in_err-push.ensures.1
+
+-- ---- what is set to refuse, and why it is refused
+
+pub returns-in_err-fd-clause-later : goal.returns-in_err-fd-clause-later
+returns-in_err-fd-clause-later g c = no_more_then c.loop-name.invariant.later c.in_err-fd.ensures.later
+
+pub returns-in_err-format-clause-later : goal.returns-in_err-format-clause-later
+returns-in_err-format-clause-later g c = no_more_then c.loop-name.invariant.later (no_more_then c.in_ok-fd.ensures.later c.in_err-format.ensures.later)
+
+pub returns-in_err-push-clause-later : goal.returns-in_err-push-clause-later
+returns-in_err-push-clause-later g c = no_more_then c.loop-name.invariant.later (no_more_then c.in_ok-fd.ensures.later c.in_ok-format.ensures.later)
+
+pub returns-in_err-fd-clause-cause : goal.returns-in_err-fd-clause-cause
+returns-in_err-fd-clause-cause g c =
+    let directories : List Text = map string_bytes c.args.directories.now in
+    let queue = c.args.config.now.queue in
+    let old = g.F.FileSystem.disk c.args.files.now in
+    let cur = g.F.FileSystem.disk c.loop-name.files in
+    let a = g.F.FileSystem.meter c.args.files.now in
+    let b = g.F.FileSystem.meter c.loop-name.files in
+    let e = g.F.FileSystem.meter c.open_file.new.files in
+    let name : FileName = get_or c.args.names.now c.loop-name.name-index (record { seq = 0; path_id = 0 }) in
+    let free : Type 0 = g.F.FileSystem.is_bounded c.args.files.now in
+    let free_then : Type 0 = g.F.FileSystem.is_bounded c.loop-name.files in
+    let gone : Type 0 = fd_of cur.names (path_of directories queue name) ≡ None in
+    let missing : Type 0 = IsMissing old directories queue c.args.names.now in
+    told_cause c.from_residual.result c.in_err-fd.field-0.0 (λ (x : Error). AreFilesRefused missing ⊥ directories queue c.args.names.now free a e x) c.from_residual.ensures.1
+    (inr (caused_for (IsRefusal free_then ⊥ b e) ⊥ ⊥ gone (IsRefusal free ⊥ a e ⊎ AnyUnreadable directories queue c.args.names.now a) ⊥ ⊥ missing c.in_err-fd.field-0.0
+    (λ more. inl (refusal_then free free_then ⊥ ⊥ a b e c.loop-name.invariant.later (λ x. x) more)) (λ x. x) (λ x. x)
+    (λ none. (name, at_in c.args.names.now c.loop-name.name-index (record { seq = 0; path_id = 0 }) c.loop-name-test.true, subst (λ (l : List (Text × ℕ)). fd_of l (path_of directories queue name) ≡ None) c.loop-name.invariant.so.only.names_stay none))
+    c.in_err-fd.ensures.cause))
+
+pub returns-in_err-format-clause-cause : goal.returns-in_err-format-clause-cause
+returns-in_err-format-clause-cause g c =
+    let met = g.met.F.FileSystem g.world.𝓛 g.world.𝓜 g.world.𝓡 ((λ s x. x), (λ x. x), (λ x. x), λ x. x) in
+    let directories : List Text = map string_bytes c.args.directories.now in
+    let queue = c.args.config.now.queue in
+    let cur = g.F.FileSystem.disk c.open_file.new.files in
+    let a = g.F.FileSystem.meter c.args.files.now in
+    let b = g.F.FileSystem.meter c.open_file.new.files in
+    let e = g.F.FileSystem.meter c.recover_file.new.files in
+    let name : FileName = get_or c.args.names.now c.loop-name.name-index (record { seq = 0; path_id = 0 }) in
+    let missing : Type 0 = IsMissing (g.F.FileSystem.disk c.args.files.now) directories queue c.args.names.now in
+    let free : Type 0 = g.F.FileSystem.is_bounded c.args.files.now in
+    let free_then : Type 0 = g.F.FileSystem.is_bounded c.open_file.new.files in
+    let before : RefusesNoMore free free_then a b = no_more_then c.loop-name.invariant.later c.in_ok-fd.ensures.later in
+    let file : IsFileOf cur directories queue name c.in_ok-fd.fd.0 = subst (λ (x : Disk). IsFileOf x directories queue name c.in_ok-fd.fd.0) (sym c.open_file.ensures.kept) c.in_ok-fd.ensures.ok in
+    let unread = unreadable_at cur directories queue c.args.names.now name c.in_ok-fd.fd.0 a b (met.is_named c.open_file.new.files)
+    (at_in c.args.names.now c.loop-name.name-index (record { seq = 0; path_id = 0 }) c.loop-name-test.true) before.reads file in
+    told_cause c.from_residual-in_err-format.result c.in_err-format.field-0.0 (λ (x : Error). AreFilesRefused missing ⊥ directories queue c.args.names.now free a e x) c.from_residual-in_err-format.ensures.1
+    (recovery_for (IsRefusal free_then ⊥ b e ⊎ HasOneOf cur c.in_ok-fd.fd.0 b.unreadable) ⊥ (IsRefusal free ⊥ a e ⊎ AnyUnreadable directories queue c.args.names.now a) missing c.in_err-format.field-0.0
+    (λ why. elim why [ | inl more ↦ inl (refusal_then free free_then ⊥ ⊥ a b e before (λ x. x) more) | inr one ↦ inr (unread one) ]) (λ x. absurd x) c.in_err-format.ensures.cause)
+
+pub returns-in_err-push-clause-cause : goal.returns-in_err-push-clause-cause
+returns-in_err-push-clause-cause g c =
+    let missing : Type 0 = IsMissing (g.F.FileSystem.disk c.args.files.now) (map string_bytes c.args.directories.now) c.args.config.now.queue c.args.names.now in
+    told_cause c.from_residual-in_err-push.result Memory (λ (x : Error). AreFilesRefused missing ⊥ (map string_bytes c.args.directories.now) c.args.config.now.queue c.args.names.now (g.F.FileSystem.is_bounded c.args.files.now) (g.F.FileSystem.meter c.args.files.now) (g.F.FileSystem.meter c.recover_file.new.files) x)
+    c.from_residual-in_err-push.ensures.1 (inr tt)

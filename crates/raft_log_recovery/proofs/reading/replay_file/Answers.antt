@@ -1,4 +1,4 @@
-use Rattle.std.proofs.Common.{◌≡◌, ℕ, Ok, Err, ap, rules, subst, ◌∙◌}
+use Rattle.std.proofs.Common.{◌≡◌, ℕ, Ok, Err, ap, rules, sym, subst, ◌∙◌}
 use Rattle.raft_log_disk.specs.declared.fault.Fd.{Fd}
 use Rattle.raft_log_disk.specs.Format.{header_len}
 use Rattle.raft_log_files.specs.declared.error.CorruptionFault.TheVariants.{Header}
@@ -11,6 +11,10 @@ use Rattle.raft_log_recovery.proofs.ReplayLemmas.{all_placed, nothing_placed}
 use Rattle.raft_log_file.specs.Errors.{IsOpenFault}
 use Rattle.raft_log_files.specs.declared.error.CorruptionFault.{CorruptionFault}
 use Rattle.raft_log_recovery.proofs.CorruptLemmas.{open_sound, passed_on}
+use Rattle.raft_log_file.specs.declared.batches.OpenFile.{OpenFile}
+use Rattle.raft_log_recovery.specs.Caused.{IsReplayFault}
+use Rattle.raft_log_pipe.proofs.CausedLemmas.{told_cause}
+use Rattle.raft_log_recovery.proofs.CausedLemmas.{open_fault, parse_fault}
 use Rattle.raft_log_recovery.proofs.reading.replay_file.Goals as goal
 
 pub returns-in-Err-Corruption-Header-clause-replayed : goal.returns-in-Err-Corruption-Header-clause-replayed
@@ -40,3 +44,28 @@ returns-in_err-open-clause-corrupt g c =
     let fd = c.build_file_reader-reader.result.fd.0 in
     passed_on (λ (f : CorruptionFault). ⊥) c.in_err-open.field-0.0 c.from_residual.result c.from_residual.ensures.1
     (λ f same. open_sound d m fd c.in-Ok.format f c.in-Ok.ensures (subst (λ (e : Error). IsOpenFault d m fd c.in-Ok.format e) same c.in_err-open.ensures.err))
+
+pub returns-in-Err-clause-err : goal.returns-in-Err-clause-err
+returns-in-Err-clause-err g c =
+    let d = g.F.FileSystem.disk c.args.files.now in
+    let m = g.F.FileSystem.meter c.args.files.now in
+    let fd : c.build_file_reader-reader.result.fd.0 ≡ c.args.fd.0 = ap (λ (x : Fd). x.0) c.build_file_reader-reader.ensures in
+    subst (λ (e : Error). IsReplayFault d m c.args.fd.0 e) (sym c.in-Err.error-is)
+    (subst (λ (n : ℕ). IsReplayFault d m n c.in-Err.error) fd (parse_fault d m c.build_file_reader-reader.result.fd.0 c.in-Err.error c.in-Err.ensures))
+
+pub returns-in_err-open-clause-err : goal.returns-in_err-open-clause-err
+returns-in_err-open-clause-err g c =
+    let d = g.F.FileSystem.disk c.args.files.now in
+    let m = g.F.FileSystem.meter c.args.files.now in
+    let fd : c.build_file_reader-reader.result.fd.0 ≡ c.args.fd.0 = ap (λ (x : Fd). x.0) c.build_file_reader-reader.ensures in
+    told_cause c.from_residual.result c.in_err-open.field-0.0 (λ (e : Error). IsReplayFault d m c.args.fd.0 e) c.from_residual.ensures.1
+    (subst (λ (n : ℕ). IsReplayFault d m n c.in_err-open.field-0.0) fd (open_fault d m c.build_file_reader-reader.result.fd.0 c.in-Ok.format c.in_err-open.field-0.0 c.in_err-open.ensures.err))
+
+pub returns-in_err-fault-clause-err : goal.returns-in_err-fault-clause-err
+returns-in_err-fault-clause-err g c =
+    let d = g.F.FileSystem.disk c.args.files.now in
+    let m = g.F.FileSystem.meter c.args.files.now in
+    let fd : c.build_file_reader-reader.result.fd.0 ≡ c.args.fd.0 = ap (λ (x : Fd). x.0) c.build_file_reader-reader.ensures in
+    let file : OpenFile = record { id = c.args.id; format = c.in-Ok.format; fd = c.build_file_reader-reader.result.fd } in
+    told_cause c.from_residual-in_err-fault.result c.in_err-fault.field-0.0 (λ (e : Error). IsReplayFault d m c.args.fd.0 e) c.from_residual-in_err-fault.ensures.1
+    (subst (λ (n : ℕ). IsReplayFault d m n c.in_err-fault.field-0.0) fd (c.in_err-fault.ensures.err file c.in_ok-open.ensures.file))

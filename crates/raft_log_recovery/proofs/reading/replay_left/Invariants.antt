@@ -6,6 +6,7 @@ use Rattle.raft_log_recovery.proofs.reading.replay_left.Given as goal
 abbrev pub invariant-batches : goal.invariant-batches
 invariant-batches g l = record {
   reader : IsReader l.reader (g.F.FileSystem.disk l.files);
+  file : l.reader.file ≡ l.initial.reader.file;
   bytes : held_bytes l.reader (g.F.FileSystem.disk l.files) ≡ held_bytes l.initial.reader (g.F.FileSystem.disk l.files);
   fault : (left l.reader (g.F.FileSystem.disk l.files)).fault ≡ (left l.initial.reader (g.F.FileSystem.disk l.files)).fault;
   to : (left l.reader (g.F.FileSystem.disk l.files)).to ≡ (left l.initial.reader (g.F.FileSystem.disk l.files)).to;

@@ -6,6 +6,12 @@ use Rattle.raft_log_recovery.proofs.ReplayLemmas.{file_fits}
 use Rattle.raft_log_files.specs.declared.error.CorruptionFault.{CorruptionFault}
 use Rattle.raft_log_recovery.specs.Repair.{cuts_faults, fault_in}
 use Rattle.raft_log_recovery.proofs.CorruptLemmas.{passed_on}
+use Rattle.std.proofs.Common.{◌⊎◌, inl, inr}
+use Rattle.raft_log_disk.specs.Disk.{HasOneOf, IsNoFile}
+use Rattle.raft_log_files.specs.declared.error.Error.{Error}
+use Rattle.raft_log_recovery.specs.Caused.{IsFileFault, IsRefusal}
+use Rattle.raft_log_pipe.proofs.CausedLemmas.{told_cause}
+use Rattle.raft_log_recovery.proofs.CausedLemmas.{all_readable, recovery_for, replay_cause, taken_of}
 use Rattle.raft_log_recovery.proofs.recover.recover_file.Goals as goal
 
 pub returns-in_err-read-clause-err : goal.returns-in_err-read-clause-err
@@ -26,3 +32,38 @@ pub returns-in_err-repair-clause-corrupt : goal.returns-in_err-repair-clause-cor
 returns-in_err-repair-clause-corrupt g c =
     passed_on (λ (f : CorruptionFault). (fault_in c.args.id ((g.F.FileSystem.disk c.args.files.now).file c.args.fd.0).bytes ≡ Some f) × (cuts_faults c.args.config.now.mode c.args.is_last ≡ false))
     c.in_err-repair.field-0.0 c.from_residual-in_err-repair.result c.from_residual-in_err-repair.ensures.1 (λ f same. c.in_err-repair.ensures.corrupt f (λ i. Err (same i)))
+
+pub returns-in_err-read-clause-cause : goal.returns-in_err-read-clause-cause
+returns-in_err-read-clause-cause g c =
+    let free : Type 0 = g.F.FileSystem.is_bounded c.args.files.now in
+    let d = g.F.FileSystem.disk c.args.files.now in
+    let m = g.F.FileSystem.meter c.args.files.now in
+    let unread : Type 0 = HasOneOf d c.args.fd.0 m.unreadable in
+    told_cause c.from_residual.result c.in_err-read.field-0.0 (λ (e : Error). IsFileFault d c.args.fd.0 free m m e) c.from_residual.ensures.1
+    (recovery_for unread ⊥ (IsRefusal free ⊥ m m ⊎ unread) ⊥ c.in_err-read.field-0.0 (λ x. inr x) (λ x. x) (replay_cause d m c.args.fd.0 c.in_err-read.field-0.0 c.requires c.in_err-read.ensures.err))
+
+pub returns-in_err-repair-clause-cause : goal.returns-in_err-repair-clause-cause
+returns-in_err-repair-clause-cause g c =
+    let d = g.F.FileSystem.disk c.args.files.now in
+    let a = g.F.FileSystem.meter c.args.files.now in
+    let b = g.F.FileSystem.meter c.repair.new.files in
+    let refused : Type 0 = IsRefusal (g.F.FileSystem.is_bounded c.args.files.now) ⊥ a b in
+    told_cause c.from_residual-in_err-repair.result c.in_err-repair.field-0.0 (λ (e : Error). IsFileFault d c.args.fd.0 (g.F.FileSystem.is_bounded c.args.files.now) a b e) c.from_residual-in_err-repair.ensures.1
+    (recovery_for refused (IsNoFile d c.args.fd.0) (refused ⊎ HasOneOf d c.args.fd.0 a.unreadable) ⊥ c.in_err-repair.field-0.0 (λ x. inl x) c.requires c.in_err-repair.ensures.cause)
+
+-- ---- where nothing is set to refuse
+
+pub returns-in_err-read-clause-taken : goal.returns-in_err-read-clause-taken
+returns-in_err-read-clause-taken g c = λ none.
+    let free : Type 0 = g.F.FileSystem.is_bounded c.args.files.now in
+    let d = g.F.FileSystem.disk c.args.files.now in
+    let m = g.F.FileSystem.meter c.args.files.now in
+    taken_of free ⊥ ⊥ (HasOneOf d c.args.fd.0 m.unreadable) m m c.from_residual.result none (all_readable free d c.args.fd.0 m none) (returns-in_err-read-clause-cause g c)
+
+pub returns-in_err-repair-clause-taken : goal.returns-in_err-repair-clause-taken
+returns-in_err-repair-clause-taken g c = λ none.
+    let free : Type 0 = g.F.FileSystem.is_bounded c.args.files.now in
+    let d = g.F.FileSystem.disk c.args.files.now in
+    let a = g.F.FileSystem.meter c.args.files.now in
+    taken_of free ⊥ ⊥ (HasOneOf d c.args.fd.0 a.unreadable) a (g.F.FileSystem.meter c.repair.new.files) c.from_residual-in_err-repair.result none (all_readable free d c.args.fd.0 a none)
+    (returns-in_err-repair-clause-cause g c)

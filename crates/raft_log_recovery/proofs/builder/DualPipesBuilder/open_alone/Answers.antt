@@ -6,7 +6,7 @@ use Rattle.raft_log_recovery.proofs.builder.DualPipesBuilder.open_alone.Goals as
 pub returns-clause-opened : goal.returns-clause-opened
 returns-clause-opened g c =
     opened_of c.open_queue.result c.args.self.now c.args.queue (g.F.FileSystem.disk c.args.files.now) (g.F.FileSystem.disk c.open_queue.new.files) c.open_queue.ensures.pipe c.open_queue.ensures.queue c.open_queue.ensures.paths
-    c.open_queue.ensures.alone
+    c.open_queue.ensures.alone c.open_queue.ensures.settings
 
 pub returns-clause-leaves : goal.returns-clause-leaves
 returns-clause-leaves g c = record {
@@ -21,3 +21,9 @@ returns-clause-refused g c = λ cant. ⊎_elim c.open_queue.ensures.refused c.op
 
 pub returns-clause-corrupt : goal.returns-clause-corrupt
 returns-clause-corrupt g c = c.open_queue.ensures.corrupt
+
+pub returns-clause-cause : goal.returns-clause-cause
+returns-clause-cause g c = c.open_queue.ensures.cause
+
+pub returns-clause-holes : goal.returns-clause-holes
+returns-clause-holes g c = c.open_queue.ensures.holes

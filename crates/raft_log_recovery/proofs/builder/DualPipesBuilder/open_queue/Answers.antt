@@ -11,7 +11,7 @@ use Rattle.raft_log_recovery.specs.Queue.{AreLeft, AreReadAlike, AreRecovered, O
 use Rattle.raft_log_pipe.specs.Found.{MakesButHeader}
 use Rattle.raft_log_pipe.specs.Pipe.{id_of}
 use Rattle.raft_log_recovery.specs.Scan.{AreFound}
-use Rattle.raft_log_recovery.proofs.OpeningLemmas.{created_gives, kept_only, no_names, none_aligned, none_last, none_named, opened_changes, opened_gives, opened_left, recovered_found, recovered_left}
+use Rattle.raft_log_recovery.proofs.OpeningLemmas.{set_so, created_gives, kept_only, no_names, none_aligned, none_last, none_named, opened_changes, opened_gives, opened_left, recovered_found, recovered_left}
 use Rattle.raft_log_recovery.proofs.AgainLemmas.{created_before, either_way, finds_before, none_keeps, opened_alike}
 use Rattle.raft_log_pipe.proofs.OthersLemmas.{others_on}
 use Rattle.raft_log_recovery.proofs.BesideLemmas.{only_others}
@@ -20,6 +20,18 @@ use Rattle.raft_log_recovery.proofs.AloneLemmas.{created_alone, found_alone, pat
 use Rattle.raft_log_recovery.proofs.CorruptLemmas.{any_aligned, memory_sound, passed_on}
 use Rattle.raft_log_files.specs.declared.error.CorruptionFault.{CorruptionFault}
 use Rattle.raft_log_recovery.specs.Both.{CantBeOpened}
+use Rattle.std.proofs.Common.{◌⊎◌, ◌<◌}
+use Rattle.std.proofs.lemmas.List.{length-map}
+use Rattle.raft_log_disk.proofs.RefusalLemmas.{no_more_then}
+use Rattle.raft_log_files.specs.declared.error.Error.{Error}
+use Rattle.raft_log_files.specs.declared.error.Error.TheVariants.{Memory}
+use Rattle.raft_log_pipe.specs.Caused.{LacksDirectory}
+use Rattle.raft_log_pipe.specs.Taken.{main_path}
+use Rattle.raft_log_disk.specs.Disk.{HasDirectory, IsNoNewFile}
+use Rattle.raft_log_recovery.specs.Caused.{AnyUnreadable, IsFirstBarred, IsFirstLacking, IsQueueFault, IsRefusal}
+use Rattle.raft_log_pipe.proofs.CausedLemmas.{lacks_before, told_cause}
+use Rattle.raft_log_recovery.proofs.HoleLemmas.{holes_created, holes_opened}
+use Rattle.raft_log_recovery.proofs.CausedLemmas.{first_barred, none_unreadable, recovery_caused, recovery_for, refusal_for, refusal_then, refused_pipe, taken_of}
 use Rattle.raft_log_recovery.proofs.builder.DualPipesBuilder.open_queue.Goals as goal
 
 pub returns-then-not-are_plain-clause-left : goal.returns-then-not-are_plain-clause-left
@@ -292,3 +304,145 @@ returns-then-is_empty-clause-corrupt g c = λ f corrupt. absurd (c.create.ensure
 
 pub returns-clause-corrupt : goal.returns-clause-corrupt
 returns-clause-corrupt g c = λ f corrupt. absurd (c.open.ensures.corrupt f corrupt)
+
+-- ---- what the settings say
+
+pub returns-then-is_empty-clause-settings : goal.returns-then-is_empty-clause-settings
+returns-then-is_empty-clause-settings g c = set_so c.create.result _ _ _ _ refl (λ i. record { version = c.new-format.ensures.version i; alignment = c.new-format.ensures.alignment i }) c.create.ensures.settings
+
+pub returns-clause-settings : goal.returns-clause-settings
+returns-clause-settings g c = set_so c.open.result _ _ _ _ refl (λ i. record { version = c.new-format.ensures.version i; alignment = c.new-format.ensures.alignment i }) c.open.ensures.settings
+
+-- ---- holes
+
+pub returns-then-is_empty-clause-holes : goal.returns-then-is_empty-clause-holes
+returns-then-is_empty-clause-holes g c =
+    holes_created c.create.result c.args.config.now.mode (directories_in c.args.self.now) c.args.config.now.queue (g.F.FileSystem.disk c.args.files.now) (g.F.FileSystem.disk c.create.new.files) (names_in c.args.self.now c.args.config.now.queue)
+    c.create.ensures.first
+
+pub returns-clause-holes : goal.returns-clause-holes
+returns-clause-holes g c =
+    holes_opened c.open.result c.args.config.now.mode (directories_in c.args.self.now) c.args.config.now.queue (g.F.FileSystem.disk c.args.files.now) (g.F.FileSystem.disk c.recover_queue.new.files) (g.F.FileSystem.disk c.open.new.files)
+    (names_in c.args.self.now c.args.config.now.queue) c.in_ok-recovered.recovered.items c.in_ok-recovered.ensures.ok (λ any. false≢true (c.in_ok-recovered.ensures.refused any)) c.open.ensures.files c.open.ensures.pipe c.open.ensures.changes
+
+-- ---- what is set to refuse, and why it is refused
+
+pub returns-then-is_empty-clause-later : goal.returns-then-is_empty-clause-later
+returns-then-is_empty-clause-later g c = no_more_then c.in_ok-recovered.ensures.later c.create.ensures.later
+
+pub returns-clause-later : goal.returns-clause-later
+returns-clause-later g c = no_more_then c.in_ok-recovered.ensures.later c.open.ensures.later
+
+pub returns-in_err-recovered-clause-cause : goal.returns-in_err-recovered-clause-cause
+returns-in_err-recovered-clause-cause g c =
+    let queue = c.args.config.now.queue in
+    let directories = directories_in c.args.self.now in
+    let names : List FileName = names_in c.args.self.now queue in
+    let d = g.F.FileSystem.disk c.args.files.now in
+    let y = g.F.FileSystem.disk c.recover_queue.new.files in
+    let free : Type 0 = g.F.FileSystem.is_bounded c.args.files.now in
+    let a = g.F.FileSystem.meter c.args.files.now in
+    let b = g.F.FileSystem.meter c.recover_queue.new.files in
+    let unread : Type 0 = AnyUnreadable directories queue names a in
+    let barred : Type 0 = IsFirstBarred directories queue names y in
+    told_cause c.from_residual.result c.in_err-recovered.field-0.0 (λ (e : Error). IsQueueFault directories queue names d y free a b e) c.from_residual.ensures.1
+    (recovery_for (IsRefusal free ⊥ a b ⊎ unread) ⊥ (IsRefusal free barred a b ⊎ unread) (IsFirstLacking directories queue names d) c.in_err-recovered.field-0.0
+    (λ why. elim why [ | inl refused ↦ inl (refusal_for free ⊥ barred a b (λ x. absurd x) refused) | inr one ↦ inr one ]) (λ x. absurd x) c.in_err-recovered.ensures.cause)
+
+pub returns-then-not-are_plain-clause-cause : goal.returns-then-not-are_plain-clause-cause
+returns-then-not-are_plain-clause-cause g c = inl (_, refl)
+
+pub returns-in_err-paths-clause-cause : goal.returns-in_err-paths-clause-cause
+returns-in_err-paths-clause-cause g c =
+    let queue = c.args.config.now.queue in
+    let y = c.recover_queue.new.files in
+    told_cause c.from_residual-in_err-paths.result Memory
+    (λ (e : Error). IsQueueFault (directories_in c.args.self.now) queue (names_in c.args.self.now queue) (g.F.FileSystem.disk c.args.files.now) (g.F.FileSystem.disk y) (g.F.FileSystem.is_bounded c.args.files.now) (g.F.FileSystem.meter c.args.files.now) (g.F.FileSystem.meter y) e)
+    c.from_residual-in_err-paths.ensures.1 (inr tt)
+
+pub returns-then-is_empty-clause-cause : goal.returns-then-is_empty-clause-cause
+returns-then-is_empty-clause-cause g c =
+    let queue = c.args.config.now.queue in
+    let directories = directories_in c.args.self.now in
+    let names : List FileName = names_in c.args.self.now queue in
+    let paths = c.in_ok-paths.paths.items in
+    let d = g.F.FileSystem.disk c.args.files.now in
+    let y = g.F.FileSystem.disk c.recover_queue.new.files in
+    let new = g.F.FileSystem.disk c.create.new.files in
+    let free : Type 0 = g.F.FileSystem.is_bounded c.args.files.now in
+    let free_then : Type 0 = g.F.FileSystem.is_bounded c.recover_queue.new.files in
+    let a = g.F.FileSystem.meter c.args.files.now in
+    let b = g.F.FileSystem.meter c.recover_queue.new.files in
+    let e = g.F.FileSystem.meter c.create.new.files in
+    let id = id_of queue 1 in
+    let said : map string_bytes paths ≡ directories = c.in_ok-paths.ensures ∙ ap (map string_bytes) c.deref-2.ensures.value in
+    let some : 0 < length paths = omega (arith, length-map paths string_bytes, ap length said, ap length c.requires.directories) in
+    let none = no_names d directories queue names c.in_ok-recovered.recovered.items c.in_ok-recovered.ensures.ok.opened
+    (omega (arith, ap length c.deref.ensures.value, c.deref.ensures.len, eqb-true (vec_len c.in_ok-recovered.recovered) 0 (sym c.is_empty.ensures ∙ c.if-is_empty.true))) in
+    let lacking : Type 0 = LacksDirectory y (map string_bytes paths) id in
+    let barred : Type 0 = IsNoNewFile y (main_path paths id) in
+    recovery_caused (IsRefusal free_then barred b e) lacking (IsRefusal free (IsFirstBarred directories queue names new) a e ⊎ AnyUnreadable directories queue names a) (IsFirstLacking directories queue names d) c.create.result
+    (λ refused. inl (refusal_then free free_then (IsFirstBarred directories queue names new) barred a b e c.in_ok-recovered.ensures.later
+    (λ none_new. (none, first_barred paths directories id y new some said c.create.ensures.others.directories c.create.ensures.others.next none_new)) refused))
+    (λ lacks. (none, lacks_before d y directories (map string_bytes paths) id id c.in_ok-recovered.ensures.only.directories_stay said refl lacks))
+    (refused_pipe lacking (HasDirectory y.directories (main_path paths id) → ⊥) free_then barred b e c.create.result c.create.ensures.cause c.create.ensures.taken)
+
+pub returns-clause-cause : goal.returns-clause-cause
+returns-clause-cause g c =
+    let queue = c.args.config.now.queue in
+    let directories = directories_in c.args.self.now in
+    let names : List FileName = names_in c.args.self.now queue in
+    let free : Type 0 = g.F.FileSystem.is_bounded c.args.files.now in
+    let free_then : Type 0 = g.F.FileSystem.is_bounded c.recover_queue.new.files in
+    let a = g.F.FileSystem.meter c.args.files.now in
+    let b = g.F.FileSystem.meter c.recover_queue.new.files in
+    let e = g.F.FileSystem.meter c.open.new.files in
+    let barred : Type 0 = IsFirstBarred directories queue names (g.F.FileSystem.disk c.open.new.files) in
+    recovery_caused (IsRefusal free_then ⊥ b e) ⊥ (IsRefusal free barred a e ⊎ AnyUnreadable directories queue names a) (IsFirstLacking directories queue names (g.F.FileSystem.disk c.args.files.now)) c.open.result
+    (λ refused. inl (refusal_then free free_then barred ⊥ a b e c.in_ok-recovered.ensures.later (λ x. absurd x) refused)) (λ x. absurd x)
+    (refused_pipe ⊥ ⊥ free_then ⊥ b e c.open.result c.open.ensures.cause c.open.ensures.taken)
+
+-- ---- where nothing is set to refuse
+
+pub returns-in_err-recovered-clause-taken : goal.returns-in_err-recovered-clause-taken
+returns-in_err-recovered-clause-taken g c = λ none.
+    let queue = c.args.config.now.queue in
+    let directories = directories_in c.args.self.now in
+    let names : List FileName = names_in c.args.self.now queue in
+    let free : Type 0 = g.F.FileSystem.is_bounded c.args.files.now in
+    let a = g.F.FileSystem.meter c.args.files.now in
+    taken_of free (IsFirstLacking directories queue names (g.F.FileSystem.disk c.args.files.now)) (IsFirstBarred directories queue names (g.F.FileSystem.disk c.recover_queue.new.files)) (AnyUnreadable directories queue names a) a (g.F.FileSystem.meter c.recover_queue.new.files)
+    c.from_residual.result none (none_unreadable free directories queue names a none) (returns-in_err-recovered-clause-cause g c)
+
+pub returns-then-not-are_plain-clause-taken : goal.returns-then-not-are_plain-clause-taken
+returns-then-not-are_plain-clause-taken g c = λ none. inl (_, refl)
+
+pub returns-in_err-paths-clause-taken : goal.returns-in_err-paths-clause-taken
+returns-in_err-paths-clause-taken g c = λ none.
+    let queue = c.args.config.now.queue in
+    let directories = directories_in c.args.self.now in
+    let names : List FileName = names_in c.args.self.now queue in
+    let free : Type 0 = g.F.FileSystem.is_bounded c.args.files.now in
+    let a = g.F.FileSystem.meter c.args.files.now in
+    taken_of free (IsFirstLacking directories queue names (g.F.FileSystem.disk c.args.files.now)) (IsFirstBarred directories queue names (g.F.FileSystem.disk c.recover_queue.new.files)) (AnyUnreadable directories queue names a) a (g.F.FileSystem.meter c.recover_queue.new.files)
+    c.from_residual-in_err-paths.result none (none_unreadable free directories queue names a none) (returns-in_err-paths-clause-cause g c)
+
+pub returns-then-is_empty-clause-taken : goal.returns-then-is_empty-clause-taken
+returns-then-is_empty-clause-taken g c = λ none.
+    let queue = c.args.config.now.queue in
+    let directories = directories_in c.args.self.now in
+    let names : List FileName = names_in c.args.self.now queue in
+    let free : Type 0 = g.F.FileSystem.is_bounded c.args.files.now in
+    let a = g.F.FileSystem.meter c.args.files.now in
+    taken_of free (IsFirstLacking directories queue names (g.F.FileSystem.disk c.args.files.now)) (IsFirstBarred directories queue names (g.F.FileSystem.disk c.create.new.files)) (AnyUnreadable directories queue names a) a (g.F.FileSystem.meter c.create.new.files)
+    c.create.result none (none_unreadable free directories queue names a none) (returns-then-is_empty-clause-cause g c)
+
+pub returns-clause-taken : goal.returns-clause-taken
+returns-clause-taken g c = λ none.
+    let queue = c.args.config.now.queue in
+    let directories = directories_in c.args.self.now in
+    let names : List FileName = names_in c.args.self.now queue in
+    let free : Type 0 = g.F.FileSystem.is_bounded c.args.files.now in
+    let a = g.F.FileSystem.meter c.args.files.now in
+    taken_of free (IsFirstLacking directories queue names (g.F.FileSystem.disk c.args.files.now)) (IsFirstBarred directories queue names (g.F.FileSystem.disk c.open.new.files)) (AnyUnreadable directories queue names a) a (g.F.FileSystem.meter c.open.new.files)
+    c.open.result none (none_unreadable free directories queue names a none) (returns-clause-cause g c)

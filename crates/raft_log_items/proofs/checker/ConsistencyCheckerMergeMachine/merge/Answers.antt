@@ -3,7 +3,7 @@ use Rattle.std.specs.BTreeMap.{get}
 use Rattle.std.specs.Ordering.{nat_cmp}
 use Rattle.raft_log_items.specs.Holes.{with_spans}
 use Rattle.raft_log_items.proofs.HoleLemmas.{placed_more}
-use Rattle.raft_log_items.proofs.checker.ConsistencyCheckerReplayMachine.merge.Goals as goal
+use Rattle.raft_log_items.proofs.checker.ConsistencyCheckerMergeMachine.merge.Goals as goal
 
 pub returns-clause-replayed : goal.returns-clause-replayed
 returns-clause-replayed c = λ placed more has behind group.
