@@ -14,7 +14,7 @@ ghost use Rattle.raft_log_engine.specs.declared.fault.EngineFault.TheVariants as
 ghost use Rattle.raft_log_engine.specs.Closing.{handed_back};
 ghost use Rattle.raft_log_engine.specs.Left.{answers_on};
 ghost use Rattle.raft_log_engine.specs.Log.{IsFoundBy, leaves_of_log, main_directory};
-ghost use Rattle.raft_log_engine.specs.Opening.{CantBeOpened, IsLeftByOpening};
+ghost use Rattle.raft_log_engine.specs.Opening.{AreSetAs, CantBeOpened, HasHolesIn, IsLeftByOpening};
 ghost use Rattle.raft_log_engine.specs.Reopened.{OpensInTail};
 ghost use Rattle.raft_log_files.specs.declared.error.CorruptionFault.{CorruptionFault};
 ghost use Rattle.raft_log_files.specs.declared.error.Error.TheVariants.{Corruption};
@@ -74,6 +74,7 @@ impl Model for MemoryLog {
 fn in_one_directory(settings: &Config) -> Result<Config, AllocError>
     ensures directories { IfOk result (λ config. directories_of (settings_of config) ≡ main_directory settings.now) }
     ensures mode { IfOk result (λ config. config.recovery_mode ≡ settings.now.recovery_mode) }
+    ensures sizes { IfOk result (λ config. (config.target_file_size ≡ settings.now.target_file_size) × (config.format_version ≡ settings.now.format_version)) }
     ensures once { IfOk result (λ config. (names : Names) (queue : LogQueue) → IsOnce names (directories_of (settings_of config)) queue) }
 {
     let mut config = settings.clone()?;
@@ -133,6 +134,8 @@ impl MemoryLog {
         ensures leaves { IfOk result (λ l. LeavesOnly (leaves_of_log disk_in l) (answers_on disk_in l.engine)) }
         ensures opens_in_tail { IfOk result (λ l. OpensInTail (main_directory l.settings) (disk_in l.engine.files) l.engine.pipes) }
         ensures settings { IfOk result (λ l. l.settings ≡ files.settings) }
+        ensures set { IfOk result (λ l. AreSetAs (settings_of files.settings) l.engine.pipes) }
+        ensures holes { IfOk result (λ l. HasHolesIn files.settings.recovery_mode (disk_in l.engine.files) l.engine.pipes) }
         ensures refused { IfErr result (λ refused. refused.files.settings ≡ files.settings) }
         ensures err { IfErr result (λ refused. IsLeftByOpening files.settings.recovery_mode (main_directory files.settings) (disk_in files.files) (disk_in refused.files.files)) }
         ensures reads { IfErr result (λ refused. (content : Content (List ℕ)) → IsFoundBy files.settings (disk_in refused.files.files) content

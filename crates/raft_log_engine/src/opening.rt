@@ -5,7 +5,7 @@ ghost use Rattle.raft_log_engine.specs.Caused.{IsSyncFault};
 ghost use Rattle.raft_log_engine.specs.Closing.{handed_back};
 ghost use Rattle.raft_log_engine.specs.Left.{IsSound, answers_on};
 ghost use Rattle.raft_log_engine.specs.declared.fault.EngineFault.TheVariants.{Log, Stopped};
-ghost use Rattle.raft_log_engine.specs.Opening.{CantBeOpened, IsFoundAgain, IsFoundContent, IsLeftByOpening, IsRecoveredAs};
+ghost use Rattle.raft_log_engine.specs.Opening.{AreSetAs, CantBeOpened, HasHolesIn, IsFoundAgain, IsFoundContent, IsLeftByOpening, IsRecoveredAs};
 ghost use Rattle.raft_log_engine.specs.Reopened.{OpensAs, OpensAsFront, OpensInTail, StandAlone, StandsAlone, directories_of_engine, directories_of_pipes};
 ghost use Rattle.raft_log_engine.specs.Since.{HasWritten};
 ghost use Rattle.raft_log_file.specs.Laws.{Batch};
@@ -66,6 +66,8 @@ fn recovered<F: FileSystem>(
 ) -> Result<(DualPipes, MemTables), EngineFault>
     ensures ok { IfOk result (λ found. IsRecoveredAs config.recovery_mode (directories_of (settings_of config)) (F.disk files.old) (F.disk files.new) found.0 found.1) }
     ensures paths { IfOk result (λ found. directories_of_pipes found.0 ≡ directories_of (settings_of config)) }
+    ensures settings { IfOk result (λ found. AreSetAs (settings_of config) found.0) }
+    ensures holes { IfOk result (λ found. HasHolesIn config.recovery_mode (F.disk files.new) found.0) }
     ensures alone { IfOk result (λ found. ((queue : LogQueue) → IsOnce (F.disk files.old).names (directories_of (settings_of config)) queue) → StandAlone found.0 (F.disk files.new)) }
     ensures err { OnErr result (IsLeftByOpening config.recovery_mode (directories_of (settings_of config)) (F.disk files.old) (F.disk files.new)) }
     ensures reads { OnErr result (IsFoundAgain config.recovery_mode (directories_of (settings_of config)) (F.disk files.old) (F.disk files.new)) }
@@ -89,6 +91,8 @@ fn found_soundly<F: FileSystem>(
 ) -> Result<(DualPipes, MemTables), EngineFault>
     ensures ok { IfOk result (λ found. IsRecoveredAs config.recovery_mode (directories_of (settings_of config)) (F.disk files.old) (F.disk files.new) found.0 found.1) }
     ensures paths { IfOk result (λ found. directories_of_pipes found.0 ≡ directories_of (settings_of config)) }
+    ensures settings { IfOk result (λ found. AreSetAs (settings_of config) found.0) }
+    ensures holes { IfOk result (λ found. HasHolesIn config.recovery_mode (F.disk files.new) found.0) }
     ensures alone { IfOk result (λ found. ((queue : LogQueue) → IsOnce (F.disk files.old).names (directories_of (settings_of config)) queue) → StandAlone found.0 (F.disk files.new)) }
     ensures err { OnErr result (IsLeftByOpening config.recovery_mode (directories_of (settings_of config)) (F.disk files.old) (F.disk files.new)) }
     ensures reads { OnErr result (IsFoundAgain config.recovery_mode (directories_of (settings_of config)) (F.disk files.old) (F.disk files.new)) }
@@ -115,6 +119,8 @@ impl<F: FileSystem + Drop> Engine<F> {
         ensures answers { IfOk result (λ e. IsFoundContent config.recovery_mode (directories_of (settings_of config)) (F.disk files) (answers_on F.disk e)) }
         ensures fresh { (F.disk files).names ≡ [] → IfOk result (λ e. answers_on F.disk e ≡ nothing) }
         ensures directories { IfOk result (λ e. directories_of_engine e ≡ directories_of (settings_of config)) }
+        ensures settings { IfOk result (λ e. AreSetAs (settings_of config) e.pipes) }
+        ensures holes { IfOk result (λ e. HasHolesIn config.recovery_mode (F.disk e.files) e.pipes) }
         ensures alone { IfOk result (λ e. ((queue : LogQueue) → IsOnce (F.disk files).names (directories_of (settings_of config)) queue) → StandsAlone F.disk e) }
         ensures written { IfOk result (λ e. HasWritten F.disk e (answers_on F.disk e) []) }
         ensures opens { IfOk result (λ e. StandsAlone F.disk e → OpensAs (directories_of_engine e) (F.disk e.files) (answers_on F.disk e)) }
