@@ -132,8 +132,7 @@ returns-in_err-pipes-clause-corrupt g c =
 pub returns-clause-settings : goal.returns-clause-settings
 returns-clause-settings g c =
     let same = c.in_ok-scan.ensures.config ∙ c.new-builder.ensures.config in
-    let opened = c.in_ok-pipes.ensures.opened in
-    (
+    let opened = c.in_ok-pipes.ensures.opened in (
       (opened.append.settings.0 ∙ ap (λ (k : Config). k.target_file_size.0) same, opened.append.settings.1 ∙ ap plain_format same),
       (opened.rewrite.settings.0 ∙ ap (λ (k : Config). k.target_file_size.0) same, opened.rewrite.settings.1 ∙ ap plain_format same),
     )

@@ -25,9 +25,9 @@ pub invariant_of-self : goal.invariant_of-self
 invariant_of-self g c =
     λ goes_on. blocks_more (g.F.FileSystem.disk c.self.inside.files) c.self.inside.pipes c.self.inside.tables c.self.inside.wrote_unsynced c.self.inside.blocks (c.self.invariant c.if-self.false) c.copies_of.new.cache (Contains c.deref.result.now)
     (λ e among.
-        let at = fetched_there (content_in c.self.inside.tables c.args.group) c.args.begin c.args.end c.args.max_size c.in-Ok.places.items c.in-Ok.ensures.some c.in-Ok.ensures.none c.in-Ok.ensures.unknown e
-        (subst (λ l. Contains l e) c.deref.ensures.value among) in
-        (c.args.group, (at.0, at.3)))
+    let at = fetched_there (content_in c.self.inside.tables c.args.group) c.args.begin c.args.end c.args.max_size c.in-Ok.places.items c.in-Ok.ensures.some c.in-Ok.ensures.none c.in-Ok.ensures.unknown e
+    (subst (λ l. Contains l e) c.deref.ensures.value among) in
+    (c.args.group, (at.0, at.3)))
     c.copies_of.ensures.kept
 
 pub returns-clause-found : goal.returns-clause-found

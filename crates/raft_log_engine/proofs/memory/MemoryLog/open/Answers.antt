@@ -59,8 +59,7 @@ plain_format version = record { version = version; alignment = 0 }
 pub returns-in-Ok-open_alone-clause-set : goal.returns-in-Ok-open_alone-clause-set
 returns-in-Ok-open_alone-clause-set c =
     let set = c.in-Ok-open_alone.ensures.settings in
-    let sizes = c.in-Ok.ensures.sizes in
-    (
+    let sizes = c.in-Ok.ensures.sizes in (
       (set.0.0 ∙ ap (λ (x : ReadableSize). x.0) sizes.0, set.0.1 ∙ ap plain_format sizes.1),
       (set.1.0 ∙ ap (λ (x : ReadableSize). x.0) sizes.0, set.1.1 ∙ ap plain_format sizes.1),
     )
