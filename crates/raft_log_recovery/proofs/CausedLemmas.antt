@@ -1,12 +1,12 @@
 -- Why recoveries are refused: errors and their causes.
-use Rattle.std.proofs.Common.{◌≡◌, ◌⊎◌, inl, inr, ℕ, zero, suc, ◌<◌, ◌≤◌, [], ◌∷◌, length, get_or, map, arith, List, Option, Some, None, refl, sym, ap, subst, ◌∙◌}
+use Rattle.std.proofs.Common.{◌≡◌, ◌⊎◌, inl, inr, ℕ, zero, suc, ◌<◌, ◌≤◌, [], ◌∷◌, length, get_or, map, arith, List, Option, Some, None, refl, sym, ap, subst}
 use Rattle.std.specs.Prelude.{Result, Ok, Err, IfErr, String}
 use Rattle.std.specs.String.{string_bytes}
 use Rattle.std.specs.declared.alloc.Global.{Global}
 use Rattle.raft_log_records.specs.declared.file_id.FileId.{FileId}
 use Rattle.raft_log_records.specs.declared.file_id.LogQueue.{LogQueue}
 use Rattle.raft_log_disk.specs.Text.{Text}
-use Rattle.raft_log_disk.specs.Disk.{Disk, HasOneOf, IsIn, IsNamed, IsNoFile, IsNoNewFile, fd_of}
+use Rattle.raft_log_disk.specs.Disk.{Disk, HasOneOf, IsIn, IsNamed, IsNoFile, IsNoNewFile}
 use Rattle.raft_log_disk.specs.declared.fault.IoFault.{IoFault}
 use Rattle.raft_log_disk.specs.declared.fault.IoFault.TheVariants as fault
 use Rattle.raft_log_disk.specs.Cause.{IsTaken, Meter, NothingRefuses, RefusesNoMore, Rises}
@@ -15,7 +15,6 @@ use Rattle.raft_log_files.specs.declared.error.OtherFault.TheVariants as other
 use Rattle.raft_log_disk.specs.declared.format.HeaderFault.TheVariants.{CutShort}
 use Rattle.raft_log_disk.specs.declared.format.LogFileFormat.{LogFileFormat}
 use Rattle.raft_log_disk.proofs.NamedLemmas.{one_path}
-use Rattle.raft_log_files.specs.declared.error.CorruptionFault.{CorruptionFault}
 use Rattle.raft_log_files.specs.declared.error.CorruptionFault.TheVariants.{Header, Record}
 use Rattle.raft_log_files.specs.declared.error.Error.{Error}
 use Rattle.raft_log_files.specs.declared.error.Error.TheVariants.{Io, Corruption, InvalidArgument, TryAgain, Memory, Other, EntryCompacted, EntryNotFound}
@@ -63,7 +62,7 @@ open_fault d m fd format e (inr read) = inr read
 
 pub next_fault : (r : LogItemBatchFileReader) (file : OpenFile) (d : Disk) (m : Meter) (e : Error) → r.file ≡ Some file → FailsNext r d m e → IsReplayFault d m file.fd.0 e
 next_fault r file d m e is fails =
-    let P : Option OpenFile → Type 0 = λ o. elim o [ | None ↦ ⊥ | Some f ↦ IsNextFault d m f.fd.0 e ] in
+    let P : Option OpenFile → Type 0 = λ o. elim o [ None ↦ ⊥ | Some f ↦ IsNextFault d m f.fd.0 e ] in
     by_file (subst P is fails)
   where
     by_file : IsNextFault d m file.fd.0 e → IsReplayFault d m file.fd.0 e
@@ -140,7 +139,7 @@ pub taken_of : {T : Type 0} (bounded absent barred unread : Type 0) (a b : Meter
 taken_of bounded absent barred unread a b (Ok x) free none why = inr tt
 taken_of bounded absent barred unread a b (Err e) free none (inl (f, is)) = inl (f, ap Err is)
 taken_of {T = T} bounded absent barred unread a b (Err e) free none (inr why) =
-    inr (taken_by T (IsRefusal bounded barred a b ⊎ unread) absent barred e (λ one. elim one [ | inl refused ↦ refused.1 free | inr other ↦ absurd (none other) ]) why)
+    inr (taken_by T (IsRefusal bounded barred a b ⊎ unread) absent barred e (λ one. elim one [ inl refused ↦ refused.1 free | inr other ↦ absurd (none other) ]) why)
 
 -- no reads are refused then
 pub all_readable : (bounded : Type 0) (d : Disk) (fd : ℕ) (m : Meter) → NothingRefuses bounded m → HasOneOf d fd m.unreadable → ⊥
@@ -218,4 +217,4 @@ either_taken {T = T} b d left bounded old new (Err e) (queue, inr why) none =
     let any : IsCaused (IsRefusal bounded (barred queue) old new ⊎ unread) ⊥ ⊥ ((q : LogQueue) × lacking q) e
     = caused_for (IsRefusal bounded (barred queue) old new ⊎ unread) ⊥ ⊥ (lacking queue) (IsRefusal bounded (barred queue) old new ⊎ unread) ⊥ ⊥ ((q : LogQueue) × lacking q) e (λ x. x) (λ x. x) (λ x. x) (λ x. (queue, x)) why in
     inr (taken_by T (IsRefusal bounded (barred queue) old new ⊎ unread) ((q : LogQueue) × lacking q) ((q : LogQueue) × barred q) e
-    (λ one. elim one [ | inl refused ↦ (queue, refused.1 none) | inr other ↦ absurd (none_unreadable bounded (directories_in b) queue (names_in b queue) old none other) ]) any)
+    (λ one. elim one [ inl refused ↦ (queue, refused.1 none) | inr other ↦ absurd (none_unreadable bounded (directories_in b) queue (names_in b queue) old none other) ]) any)

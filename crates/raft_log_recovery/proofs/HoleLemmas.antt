@@ -12,21 +12,20 @@ use Rattle.raft_log_disk.specs.Text.{Text}
 use Rattle.raft_log_files.specs.declared.error.CorruptionFault.TheVariants.{Header}
 use Rattle.raft_log_files.specs.declared.recovery.RecoveryMode.{RecoveryMode}
 use Rattle.raft_log_files.specs.declared.recovery.RecoveryMode.TheVariants.{AbsoluteConsistency, TolerateTailCorruption, TolerateAnyCorruption}
-use Rattle.raft_log_file.specs.Laws.{Batch}
 use Rattle.raft_log_file.specs.Reading.{Reading, read_or}
 use Rattle.raft_log_pipe.specs.declared.file.File.{File}
 use Rattle.raft_log_pipe.specs.declared.pipe.SinglePipe.{SinglePipe}
 use Rattle.raft_log_pipe.specs.Begun.{Changes}
 use Rattle.raft_log_pipe.specs.Blocks.{files_of}
 use Rattle.raft_log_pipe.specs.Others.{KeepsOthers}
-use Rattle.raft_log_pipe.specs.Pipe.{AreOlder, Holds, IsOlder, IsPipe, Numbered, id_of}
+use Rattle.raft_log_pipe.specs.Pipe.{Holds, IsPipe, Numbered, id_of}
 use Rattle.raft_log_pipe.proofs.AloneLemmas.{in_first}
 use Rattle.raft_log_pipe.proofs.OthersLemmas.{named_beside}
 use Rattle.raft_log_pipe.proofs.PipeLemmas.{file_beside}
 use Rattle.raft_log_recovery.specs.declared.scan.FileName.{FileName}
 use Rattle.raft_log_recovery.specs.Crashed.{HasHole}
 use Rattle.raft_log_recovery.specs.Holes.{HasBroken, HolesOnlyBroken}
-use Rattle.raft_log_recovery.specs.Queue.{AnyRefused, AreNumbered, AreOpen, AreRecovered, HasRefused, IsOpen, IsRecovered}
+use Rattle.raft_log_recovery.specs.Queue.{AnyRefused, AreNumbered, AreOpen, AreRecovered, IsOpen, IsRecovered}
 use Rattle.raft_log_recovery.specs.Repair.{cuts_faults, fault_in, record_fault}
 use Rattle.raft_log_recovery.proofs.BesideLemmas.{HaveSame, bytes_same, file_same, turned}
 use Rattle.raft_log_recovery.proofs.QueueLemmas.{in_middle, number_of}

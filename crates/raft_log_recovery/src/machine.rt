@@ -29,8 +29,8 @@ pub trait MergeMachine: ReplayMachine {
     /// Adds what a machine has replayed that was given the batches behind those of this one. After
     /// an `Err` the machine is given up. The only error is want of memory.
     fn merge(&mut self, behind: Self) -> Result<(), Error>
-        ensures replayed { OnOk result ((placed : List Placed) (more : List Placed) → has_replayed self.old placed → has_replayed behind more
-            → has_replayed self.new (placed ++ more)) }
+        ensures replayed { OnOk result ((placed : List Placed) (more : List Placed) → Self.ReplayMachine.has_replayed self.old placed → Self.ReplayMachine.has_replayed behind more
+            → Self.ReplayMachine.has_replayed self.new (placed ++ more)) }
         ensures err { IfErr result (λ e. e ≡ Memory) };
 }
 

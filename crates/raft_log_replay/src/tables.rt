@@ -1,6 +1,6 @@
 //! Memtables of the batches that were read.
 
-ghost use Rattle.std.specs.Prelude.{◌≡◌, ℕ, List, None};
+ghost use Rattle.std.specs.Prelude.{◌≡◌, List, None};
 ghost use Rattle.raft_log_memtables.specs.Content.{nothing};
 ghost use Rattle.raft_log_memtables.specs.MemTables.{content_in, reach_in};
 ghost use Rattle.raft_log_recovery.specs.Replay.{Placed};

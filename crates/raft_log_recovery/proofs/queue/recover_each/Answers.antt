@@ -10,7 +10,7 @@ use Rattle.raft_log_recovery.proofs.QueueLemmas.{NoneRefused, Replays, alike_at,
 use Rattle.raft_log_recovery.proofs.ReplayLemmas.{file_fits}
 use Rattle.raft_log_recovery.proofs.TurnLemmas.{Turn, done_alike, done_kept, done_left, done_none, done_of, done_only, done_recovered, done_replays, file_at, is_file, stopped_alike, stopped_kept, stopped_left, stopped_only, turn_of}
 use Rattle.raft_log_recovery.proofs.CorruptLemmas.{memory_sound, passed_on, refused_at}
-use Rattle.std.proofs.Common.{◌⊎◌, inl, inr, ℕ, None, get_or, ap}
+use Rattle.std.proofs.Common.{◌⊎◌, inl, inr, ℕ, None, get_or}
 use Rattle.raft_log_disk.specs.Disk.{HasOneOf, fd_of}
 use Rattle.raft_log_disk.specs.Cause.{RefusesNoMore}
 use Rattle.raft_log_disk.proofs.RefusalLemmas.{no_more_then}
@@ -234,7 +234,7 @@ returns-in_err-format-clause-cause g c =
     (at_in c.args.names.now c.loop-name.name-index (record { seq = 0; path_id = 0 }) c.loop-name-test.true) before.reads file in
     told_cause c.from_residual-in_err-format.result c.in_err-format.field-0.0 (λ (x : Error). AreFilesRefused missing ⊥ directories queue c.args.names.now free a e x) c.from_residual-in_err-format.ensures.1
     (recovery_for (IsRefusal free_then ⊥ b e ⊎ HasOneOf cur c.in_ok-fd.fd.0 b.unreadable) ⊥ (IsRefusal free ⊥ a e ⊎ AnyUnreadable directories queue c.args.names.now a) missing c.in_err-format.field-0.0
-    (λ why. elim why [ | inl more ↦ inl (refusal_then free free_then ⊥ ⊥ a b e before (λ x. x) more) | inr one ↦ inr (unread one) ]) (λ x. absurd x) c.in_err-format.ensures.cause)
+    (λ why. elim why [ inl more ↦ inl (refusal_then free free_then ⊥ ⊥ a b e before (λ x. x) more) | inr one ↦ inr (unread one) ]) (λ x. absurd x) c.in_err-format.ensures.cause)
 
 pub returns-in_err-push-clause-cause : goal.returns-in_err-push-clause-cause
 returns-in_err-push-clause-cause g c =

@@ -347,7 +347,7 @@ returns-in_err-recovered-clause-cause g c =
     let barred : Type 0 = IsFirstBarred directories queue names y in
     told_cause c.from_residual.result c.in_err-recovered.field-0.0 (λ (e : Error). IsQueueFault directories queue names d y free a b e) c.from_residual.ensures.1
     (recovery_for (IsRefusal free ⊥ a b ⊎ unread) ⊥ (IsRefusal free barred a b ⊎ unread) (IsFirstLacking directories queue names d) c.in_err-recovered.field-0.0
-    (λ why. elim why [ | inl refused ↦ inl (refusal_for free ⊥ barred a b (λ x. absurd x) refused) | inr one ↦ inr one ]) (λ x. absurd x) c.in_err-recovered.ensures.cause)
+    (λ why. elim why [ inl refused ↦ inl (refusal_for free ⊥ barred a b (λ x. absurd x) refused) | inr one ↦ inr one ]) (λ x. absurd x) c.in_err-recovered.ensures.cause)
 
 pub returns-then-not-are_plain-clause-cause : goal.returns-then-not-are_plain-clause-cause
 returns-then-not-are_plain-clause-cause g c = inl (_, refl)

@@ -1,13 +1,11 @@
-use Rattle.std.proofs.Common.{[], ◌++◌, ◌≡◌, Err, sym, ◌∙◌}
+use Rattle.std.proofs.Common.{[], ◌++◌, Err}
 use Rattle.std.proofs.lemmas.Bool.{false≢true}
 use Rattle.raft_log_recovery.proofs.BothLemmas.{both_holes, both_leave, both_opened, both_pipes, both_with, first_leaves, found_still, neither}
 use Rattle.raft_log_records.specs.declared.file_id.LogQueue.{LogQueue}
 use Rattle.raft_log_records.specs.declared.file_id.LogQueue.TheVariants.{Append, Rewrite}
 use Rattle.raft_log_files.specs.declared.error.CorruptionFault.{CorruptionFault}
-use Rattle.raft_log_files.specs.declared.error.Error.TheVariants.{Corruption}
 use Rattle.raft_log_recovery.specs.Both.{CantBeOpened}
 use Rattle.raft_log_recovery.proofs.CorruptLemmas.{cant_before, passed_on}
-use Rattle.std.proofs.Common.{inr, subst}
 use Rattle.raft_log_disk.proofs.RefusalLemmas.{no_more_then}
 use Rattle.raft_log_files.specs.declared.error.Error.{Error}
 use Rattle.raft_log_recovery.specs.Both.{IsEitherFault}
@@ -121,9 +119,11 @@ returns-in_err-append-clause-cause g c =
     let free : Type 0 = g.F.FileSystem.is_bounded c.args.files.now in
     let a = g.F.FileSystem.meter c.args.files.now in
     told_cause c.from_residual-in_err-append.result c.in_err-append.field-0.0
-    (λ (x : Error). IsEitherFault c.args.self.now d (g.F.FileSystem.disk new) free a (g.F.FileSystem.meter new) x) c.from_residual-in_err-append.ensures.1
-    (Append, fault_then (directories_in c.args.self.now) Append (names_in c.args.self.now Append) d (g.F.FileSystem.disk y) (g.F.FileSystem.disk new) free (g.F.FileSystem.is_bounded y) a (g.F.FileSystem.meter y) (g.F.FileSystem.meter new) c.in_err-append.field-0.0
-    c.open_alone.ensures.others.directories c.in_ok-rewrite.ensures.later c.in_err-append.ensures.cause)
+    (λ (x : Error). IsEitherFault c.args.self.now d (g.F.FileSystem.disk new) free a (g.F.FileSystem.meter new) x) c.from_residual-in_err-append.ensures.1 (
+      Append,
+      fault_then (directories_in c.args.self.now) Append (names_in c.args.self.now Append) d (g.F.FileSystem.disk y) (g.F.FileSystem.disk new) free (g.F.FileSystem.is_bounded y) a (g.F.FileSystem.meter y) (g.F.FileSystem.meter new) c.in_err-append.field-0.0
+          c.open_alone.ensures.others.directories c.in_ok-rewrite.ensures.later c.in_err-append.ensures.cause,
+    )
 
 -- ---- where nothing is set to refuse
 
@@ -136,4 +136,3 @@ pub returns-in_err-append-clause-taken : goal.returns-in_err-append-clause-taken
 returns-in_err-append-clause-taken g c =
     either_taken c.args.self.now (g.F.FileSystem.disk c.args.files.now) (g.F.FileSystem.disk c.open_alone-2.new.files) (g.F.FileSystem.is_bounded c.args.files.now) (g.F.FileSystem.meter c.args.files.now) (g.F.FileSystem.meter c.open_alone-2.new.files) c.from_residual-in_err-append.result
     (returns-in_err-append-clause-cause g c)
-

@@ -1,4 +1,4 @@
-use Rattle.std.proofs.Common.{◌≡◌, ℕ, List, [], ◌∷◌, ◌++◌, Option, None, sym, ap, ◌∙◌}
+use Rattle.std.proofs.Common.{ℕ, Option, None, sym, ap, ◌∙◌}
 use Rattle.raft_log_records.specs.declared.item.EntryIndex.{EntryIndex}
 use Rattle.raft_log_records.specs.Item.{items_of}
 use Rattle.raft_log_memtables.specs.Content.{Content, after_batch, nothing, reach_after_batch}
