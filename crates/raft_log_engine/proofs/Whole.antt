@@ -14,12 +14,11 @@ use Rattle.raft_log_records.specs.Spelling.{block_of, sealed}
 use Rattle.raft_log_disk.specs.Disk.{Disk, IsIn, IsNoFile}
 use Rattle.raft_log_disk.specs.Cause.{Meter}
 use Rattle.raft_log_files.specs.declared.error.Error.{Error}
-use Rattle.raft_log_files.specs.declared.error.Error.TheVariants.{Memory}
 use Rattle.raft_log_file.specs.Errors.{IsReadFault}
 use Rattle.raft_log_pipe.specs.declared.file.File.{File}
 use Rattle.raft_log_pipe.specs.declared.pipe.SinglePipe.{SinglePipe}
 use Rattle.raft_log_pipe.specs.Blocks.{IsBlockFault, IsOutOfSpan, files_of}
-use Rattle.raft_log_pipe.specs.Pipe.{AreOlder, Holds, IsNamedSo, IsPipe, Numbered, first_of, id_of}
+use Rattle.raft_log_pipe.specs.Pipe.{AreOlder, Holds, IsNamedSo, IsPipe, Numbered, id_of}
 use Rattle.raft_log_pipe.proofs.BlockLemmas.{in_last, older_below, one_file}
 use Rattle.raft_log_pipe.proofs.TakenLemmas.{named_there}
 use Rattle.raft_log_pipes.specs.declared.pipes.DualPipes.{DualPipes}
@@ -28,9 +27,8 @@ use Rattle.raft_log_memtables.specs.declared.memtables.MemTables.{MemTables}
 use Rattle.raft_log_memtables.specs.ContentLaws.{content_map}
 use Rattle.raft_log_memtables.specs.MemTables.{content_in}
 use Rattle.raft_log_engine.specs.Blocks.{HasBlock, StandsWhole}
-use Rattle.raft_log_engine.specs.Caused.{IsBlockUnread, IsUnread}
+use Rattle.raft_log_engine.specs.Caused.{IsUnread}
 use Rattle.raft_log_engine.specs.Held.{IsHeld, LiesIn, ReadsEntries, bytes_on, file_in, unsealed_bytes}
-use Rattle.raft_log_engine.specs.declared.fault.EngineFault.{EngineFault}
 use Rattle.raft_log_engine.specs.declared.fault.EngineFault.TheVariants.{Log}
 use Rattle.raft_log_engine.proofs.EntryReads.{IsFound, disk_reads, found, lies_sealed, pipe_there, unsealed_is}
 use Rattle.raft_log_engine.proofs.Settled.{not_longer, some_same}

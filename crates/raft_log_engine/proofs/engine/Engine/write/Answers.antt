@@ -1,5 +1,5 @@
 -- What a write leaves, exit by exit.
-use Rattle.std.proofs.Common.{◌≡◌, ℕ, true, false, sym, ap, subst, ◌∙◌, inr}
+use Rattle.std.proofs.Common.{◌≡◌, ℕ, false, sym, ap, subst, ◌∙◌, inr}
 use Rattle.std.proofs.lemmas.Bool.{false≢true}
 use Rattle.std.specs.List.{list_any}
 use Rattle.raft_log_records.specs.Item.{with_lengths}
@@ -8,11 +8,10 @@ use Rattle.raft_log_disk.proofs.CauseLemmas.{at_err}
 use Rattle.raft_log_pipe.proofs.AloneLemmas.{nearly}
 use Rattle.raft_log_recovery.proofs.LengthLemmas.{placed_lengths}
 use Rattle.raft_log_memtables.specs.Content.{after_batch}
-use Rattle.raft_content_log.specs.Leaving.{IsWritten}
 use Rattle.raft_log_engine.specs.Held.{seen_on}
-use Rattle.raft_log_engine.specs.Left.{answers_on, leaves_on}
+use Rattle.raft_log_engine.specs.Left.{answers_on}
 use Rattle.raft_log_engine.specs.Since.{HasWritten}
-use Rattle.raft_log_engine.proofs.Clauses.{HeldBy, agrees, done_blocks, done_from, done_kept, done_seen, done_written, empty_written, failed, kept_by, others, parts, put_leaves, refused}
+use Rattle.raft_log_engine.proofs.Clauses.{HeldBy, agrees, done_blocks, done_from, done_kept, done_seen, done_written, failed, kept_by, others, parts, put_leaves, refused}
 use Rattle.raft_log_engine.proofs.Reopened.{done_opens, failed_opens, refused_opens, stand_on}
 use Rattle.raft_log_engine.proofs.Since.{failed_front, more_opens, more_written, no_batch, nothing_since, one_batch, refused_front, written_opens}
 use Rattle.raft_log_engine.specs.Reopened.{directories_of_engine}

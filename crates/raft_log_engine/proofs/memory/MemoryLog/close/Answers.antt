@@ -1,5 +1,5 @@
 -- Files that were closed open as what the log answered, whatever a crash leaves of them.
-use Rattle.std.proofs.Common.{List, inl, refl, sym, subst}
+use Rattle.std.proofs.Common.{List, inl, subst}
 use Rattle.raft_log_disk.specs.MemorySystem.{disk_in}
 use Rattle.raft_log_disk.specs.Text.{Text}
 use Rattle.raft_log_engine.specs.Reopened.{OpensInTail}
