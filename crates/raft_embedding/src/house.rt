@@ -6,7 +6,7 @@ use crate::node::{Answered, Failure, Kept, NotUp, ShelfNode, close_node, new_fil
 use crate::shelf::Shelf;
 use crate::told::{push_refusal, refusal_of, text_of};
 use raft_framed_groups::GroupFrame;
-use raft_log_engine::LogFiles;
+use raft_log_engine::{LogFiles, NotClosed};
 use raft_node::{Fed, Opened, Outcome};
 use std::alloc::{AllocError, Global};
 use std::collections::BTreeMap;
@@ -133,9 +133,17 @@ impl House {
         }
     }
 
-    fn closed(&mut self, id: u64, files: LogFiles) -> Told {
-        self.files.insert(id, files)?;
-        format!(in self.alloc; "closed")
+    fn closed(&mut self, id: u64, closed: Result<LogFiles, NotClosed<LogFiles>>) -> Told {
+        match closed {
+            Ok(files) => {
+                self.files.insert(id, files)?;
+                format!(in self.alloc; "closed")
+            }
+            Err(NotClosed { fault, files }) => {
+                self.files.insert(id, files)?;
+                format!(in self.alloc; "not closed: {fault}")
+            }
+        }
     }
 
     /// The node is closed.

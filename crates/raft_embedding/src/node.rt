@@ -1,7 +1,7 @@
 //! A node with shelves, on files of its own.
 
 use crate::shelf::Shelf;
-use raft_log_engine::{EngineFault, LogFiles, MemoryLog, NotOpened as LogNotOpened};
+use raft_log_engine::{EngineFault, LogFiles, MemoryLog, NotClosed, NotOpened as LogNotOpened};
 use raft_log_files::Config;
 use raft_node::{Cause, Fault, Node, NotOpened, Opened, Outcome};
 use raft_store::{Store, StoreFault};
@@ -67,7 +67,7 @@ pub fn open_node(alloc: Global, id: u64, files: LogFiles) -> Result<Opened<Shelf
     }
 }
 
-/// The node is closed, and its files are left.
-pub fn close_node(node: ShelfNode) -> LogFiles {
+/// The node is closed, and its files are left, also where that was refused.
+pub fn close_node(node: ShelfNode) -> Result<LogFiles, NotClosed<LogFiles>> {
     node.into_storage().into_log().close()
 }

@@ -59,3 +59,12 @@ more_read d p IsAsked e old mid new asked first second x y kept = of (second x y
     of : Keeps mid x y ⊎ ((f : EntryIndex) × (f ≡ e) × (f.entries ≡ Some x) × IsReadAs d p x y) → Keeps old x y ⊎ ((f : EntryIndex) × IsAsked f × (f.entries ≡ Some x) × IsReadAs d p x y)
     of (inl was) = first x y was
     of (inr read) = inr (read.0, subst IsAsked (sym read.1) asked, read.2, read.3)
+
+-- a block was read for an entry, and is kept
+pub then_kept : (d : Disk) (p : DualPipes) (e : EntryIndex) (old mid new : BlockCache) (h : FileBlockHandle) (b : List ℕ) → e.entries ≡ Some h → IsReadAs d p h b → ((x : FileBlockHandle) (y : List ℕ) → Keeps mid x y → Keeps old x y)
+    → ((x : FileBlockHandle) (y : List ℕ) → Keeps new x y → Keeps mid x y ⊎ (x ≡ h) × (y ≡ b)) → KeepsMore d p (λ f. f ≡ e) old new
+then_kept d p e old mid new h b place read before after x y kept = of (after x y kept)
+  where
+    of : Keeps mid x y ⊎ (x ≡ h) × (y ≡ b) → Keeps old x y ⊎ ((f : EntryIndex) × (f ≡ e) × (f.entries ≡ Some x) × IsReadAs d p x y)
+    of (inl was) = inl (before x y was)
+    of (inr put) = inr (e, refl, place ∙ ap (λ (z : FileBlockHandle). Some z) (sym put.0), subst (λ (z : FileBlockHandle). IsReadAs d p z y) (sym put.0) (subst (IsReadAs d p h) (sym put.1) read))

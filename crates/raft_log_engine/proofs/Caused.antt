@@ -1,13 +1,10 @@
 -- Why calls of an engine are refused: errors and their causes.
-use Rattle.std.proofs.Common.{◌≡◌, ◌⊎◌, inl, inr, ℕ, ◌<◌, ◌≤◌, Bool, true, false, [], ◌∷◌, List, length, Option, Some, refl, sym, subst, arith}
+use Rattle.std.proofs.Common.{◌≡◌, ◌⊎◌, inl, inr, ℕ, ◌<◌, ◌≤◌, Bool, true, false, [], ◌∷◌, List, Option, Some, refl, sym, subst, arith}
 use Rattle.std.specs.Prelude.{Contains, Result, Ok, Err, IfErr}
 use Rattle.std.proofs.lemmas.Bool.{false≢true}
-use Rattle.raft_log_records.specs.declared.error.RecordFault.TheVariants.{EntriesLength}
-use Rattle.raft_log_records.specs.declared.file_id.FileBlockHandle.{FileBlockHandle}
 use Rattle.raft_log_records.specs.declared.item.EntryIndex.{EntryIndex}
 use Rattle.raft_log_disk.specs.Disk.{Disk}
 use Rattle.raft_log_disk.specs.Cause.{Meter}
-use Rattle.raft_log_files.specs.declared.error.CorruptionFault.TheVariants.{Record}
 use Rattle.raft_log_files.specs.declared.error.Error.{Error}
 use Rattle.raft_log_files.specs.declared.error.Error.TheVariants.{Io, Corruption, InvalidArgument, TryAgain, Memory, Other, EntryCompacted, EntryNotFound}
 use Rattle.raft_log_file.specs.Laws.{Batch}
@@ -18,7 +15,6 @@ use Rattle.raft_log_memtables.specs.declared.fetch.FetchError.TheVariants as fet
 use Rattle.raft_log_memtables.specs.declared.memtables.MemTables.{MemTables}
 use Rattle.raft_log_memtables.specs.Content.{GroupContent}
 use Rattle.raft_log_memtables.specs.Fetch.{Fetches}
-use Rattle.raft_log_engine.specs.Blocks.{block_on}
 use Rattle.raft_log_engine.specs.Caused.{IsCausedBy, IsCompactionFault, IsCopyFault, IsFetchFault, IsSyncFault, IsWriteFault, fetch_fault}
 use Rattle.raft_log_engine.specs.Held.{Parts}
 use Rattle.raft_log_engine.specs.Reads.{compaction}
@@ -95,24 +91,17 @@ compaction_memory_cause disk e old new x is = subst (λ (z : EngineFault). IsCom
 
 -- ---- reads of entries
 
--- a block that is kept ends before the entry
-pub cached_fault : {T : Type 0} (result : Result T EngineFault) (d : Disk) (p : DualPipes) (m : Meter) (e : EntryIndex) (h : FileBlockHandle) (entries : List ℕ) → e.entries ≡ Some h → entries ≡ block_on d p h
-    → IfErr result (λ fault. (fault ≡ Log Memory) ⊎ ((fault ≡ Log (Corruption (Record EntriesLength))) × (length entries < e.entry_offset))) → IfErr result (λ fault. IsCopyFault d p m e fault)
-cached_fault (Ok x) d p m e h entries place read why = tt
-cached_fault (Err y) d p m e h entries place read (inl memory) = inl memory
-cached_fault (Err y) d p m e h entries place read (inr (is, short)) = inr (inr (h, place, inr (is, subst (λ (l : List ℕ). length l < e.entry_offset) read short)))
-
 -- one of the entries isn't read
 pub copied_fault : (d : Disk) (p : DualPipes) (m : Meter) (places : List EntryIndex) (place : EntryIndex) (fault : EngineFault) → Contains places place → IsCopyFault d p m place fault
     → (fault ≡ Log Memory) ⊎ ((x : EntryIndex) × Contains places x × IsCopyFault d p m x fault)
 copied_fault d p m places place fault there why = inr (place, there, why)
 
 module _ {F : Type 0} (disk : F → Disk) (meter : F → Meter) (e : Parts F) (group : GroupContent EntryIndex) (begin end : ℕ) where
-  pub copies_fault : {T : Type 0} (result : Result T EngineFault) (places : List EntryIndex) → ((x : EntryIndex) → Contains places x → (index : ℕ) × (group.entry index ≡ Some x))
+  pub copies_fault : {T : Type 0} (result : Result T EngineFault) (places : List EntryIndex) → ((x : EntryIndex) → Contains places x → (index : ℕ) × (begin ≤ index) × (index < end) × (group.entry index ≡ Some x))
       → IfErr result (λ fault. (fault ≡ Log Memory) ⊎ ((x : EntryIndex) × Contains places x × IsCopyFault (disk e.files) e.pipes (meter e.files) x fault)) → IfErr result (λ fault. IsFetchFault disk meter e group begin end fault)
   copies_fault (Ok x) places there why = tt
   copies_fault (Err y) places there (inl memory) = inr (inr (inr (inl memory)))
-  copies_fault (Err y) places there (inr (x, among, why)) = let at = there x among in inr (inr (inr (inr (at.0, x, at.1, why))))
+  copies_fault (Err y) places there (inr (x, among, why)) = let at = there x among in inr (inr (inr (inr (at.0, at.1, at.2, (x, at.3, why)))))
 
   -- the range isn't that of entries
   pub range_fault : (size : Option ℕ) (x : FetchError) (fault : EngineFault) → fault ≡ fetch_fault x → (group.there ≡ true → begin < end → Fetches group.entry begin end size (Err x)) → (end ≤ begin → ⊥) → (group.there ≡ false → ⊥)

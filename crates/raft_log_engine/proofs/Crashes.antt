@@ -1,6 +1,6 @@
 -- A log whose files crash where they lie, and files that show nothing by chance.
-use Rattle.std.proofs.Common.{◌≡◌, ◌⊎◌, inl, inr, ℕ, Bool, true, false, cond, eqb, List, [], ◌∷◌, refl, sym, ap, subst, ◌∙◌}
-use Rattle.std.specs.Prelude.{Result, Ok, Err, IfErr, OnErr, OnOk, MatchOption, ◌==◌}
+use Rattle.std.proofs.Common.{◌≡◌, inl, inr, ℕ, Bool, true, false, cond, eqb, List, [], ◌∷◌, refl, sym, ap, subst, ◌∙◌}
+use Rattle.std.specs.Prelude.{Result, Ok, Err, IfErr, OnErr, OnOk, MatchOption}
 use Rattle.std.specs.List.{AllByRecursion}
 use Rattle.std.proofs.lemmas.Bool.{eqb-false, eqb-true, false≢true}
 use Rattle.raft_log_disk.specs.declared.crash.CrashChoice.TheVariants.{Most}
@@ -10,7 +10,7 @@ use Rattle.raft_log_disk.specs.declared.crash.CrashRefusal.TheVariants.{ByChance
 use Rattle.raft_log_disk.specs.declared.memory.MemoryFileSystem.{MemoryFileSystem}
 use Rattle.raft_log_disk.specs.Chance.{IsGenuine, IsGenuineImage}
 use Rattle.raft_log_disk.specs.Disk.{Disk, FileState, IsIn, settled}
-use Rattle.raft_log_disk.specs.Image.{Image, IsFileImage, IsImage, IsImageOf, after_crash, image_of, seen_image}
+use Rattle.raft_log_disk.specs.Image.{Image, IsFileImage, IsImageOf, after_crash, image_of, seen_image}
 use Rattle.raft_log_disk.specs.MemoryImages.{memory_images}
 use Rattle.raft_log_disk.specs.MemorySystem.{disk_in, memory_is_named}
 use Rattle.raft_log_disk.specs.Name.{log_file_of}

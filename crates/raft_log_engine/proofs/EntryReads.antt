@@ -27,7 +27,7 @@ use Rattle.raft_log_engine.specs.Held.{LiesIn, ReadsEntries, block_in, bytes_on,
 
 -- ---- the file of a number
 
-record IsFound (seq : ℕ) (fs : List File) : Type 0 where
+pub record IsFound (seq : ℕ) (fs : List File) : Type 0 where
   pub file : File
   pub is : file_in seq fs ≡ Some file
   pub among : IsIn file fs
@@ -44,7 +44,7 @@ first_found : (seq : ℕ) (f : File) (fs : List File) → f.seq ≡ seq → IsFo
 first_found seq f fs same = record { file = f; is = ap (λ (b : Bool). cond b (Some f) (file_in seq fs)) (eq-eqb f.seq seq same); among = inl refl; number = same }
 
 -- one that is among the files
-found : (seq : ℕ) (fs : List File) (g : File) → IsIn g fs → g.seq ≡ seq → IsFound seq fs
+pub found : (seq : ℕ) (fs : List File) (g : File) → IsIn g fs → g.seq ≡ seq → IsFound seq fs
 found seq [] g there same = absurd there
 found seq (f ∷ fs) g there same = by_test (λ later. found seq fs g later same) (eqb_tells f.seq seq) there
   where
@@ -78,7 +78,7 @@ not_out p d seq pipe within =
 pub length-sealed : (signature : Option ℕ) (block : List ℕ) → length (sealed signature block) ≡ length block + 4
 length-sealed signature block = length-append block (to_be_bytes w32 (signed signature (crc32_of block)))
 
-unsealed_is : (block bytes : List ℕ) → bytes ≡ sealed None block → unsealed_bytes bytes ≡ block
+pub unsealed_is : (block bytes : List ℕ) → bytes ≡ sealed None block → unsealed_bytes bytes ≡ block
 unsealed_is block bytes is =
     ap unsealed_bytes is
     ∙ ap (λ (n : ℕ). take n (sealed None block)) (omega (arith, length-sealed None block))
@@ -107,15 +107,24 @@ pipe_there p d pipes Rewrite = pipes.rewrite
 pub entry_read : (p : DualPipes) (d : Disk) (e : EntryIndex) (h : FileBlockHandle) (block bytes : List ℕ) → e.entries ≡ Some h → block ≡ block_in d h (file_in h.id.seq (files_of (pipe_of p h.id.queue))) → bytes ≡ entry_bytes block e → bytes ≡ bytes_on d p e
 entry_read p d e h block bytes place read is = is ∙ ap (λ (l : List ℕ). entry_bytes l e) read ∙ sym (ap (λ (o : Option FileBlockHandle). bytes_placed d p e o) place)
 
--- the block of an entry that lies in a batch of a pipe
+-- what stands at a block's place in a file
+abbrev bytes_there : Disk → FileBlockHandle → File → List ℕ
+bytes_there d h f = take h.len (drop h.offset (d.file f.handle.0).bytes)
+
+lies_there : (p : SinglePipe) (d : Disk) (bs : Numbered) → IsPipe p d → (e : EntryIndex) (bytes : List ℕ) → (lies : LiesIn p bs e bytes) → AreOfFile p d lies.handle (bytes_there d lies.handle lies.file)
+lies_there p d bs pipe e bytes lies f among number = ap (bytes_there d lies.handle) (one_file p d lies.file f pipe lies.among among (sym lies.block.seq ∙ sym number))
+
+-- the block of an entry that lies in a batch of a pipe, with its checksum
+pub lies_sealed : (p : SinglePipe) (d : Disk) (s u : Numbered) → IsPipe p d → Holds p d s u → (e : EntryIndex) (bytes : List ℕ) → (lies : LiesIn p (s ++ u) e bytes) → bytes_there d lies.handle lies.file ≡ sealed None (block_of lies.items)
+lies_sealed p d s u pipe holds e bytes lies =
+    blocks_are p d lies.handle (bytes_there d lies.handle lies.file) pipe (lies_there p d (s ++ u) pipe e bytes lies) s u lies.before lies.after lies.file lies.items 8 holds lies.split lies.among lies.block ∙ lies.stands
+
+-- and without it
 pub lies_block : (p : SinglePipe) (d : Disk) (s u : Numbered) → IsPipe p d → Holds p d s u → (e : EntryIndex) (bytes : List ℕ) → (lies : LiesIn p (s ++ u) e bytes)
     → block_in d lies.handle (file_in lies.handle.id.seq (files_of p)) ≡ block_of lies.items
 lies_block p d s u pipe holds e bytes lies =
-    let h : FileBlockHandle = lies.handle in
-    let there : List ℕ = take h.len (drop h.offset (d.file lies.file.handle.0).bytes) in
-    let are : AreOfFile p d h there = λ f among number. ap (λ (x : File). take h.len (drop h.offset (d.file x.handle.0).bytes)) (one_file p d lies.file f pipe lies.among among (sym lies.block.seq ∙ sym number)) in
-    let is : there ≡ sealed None (block_of lies.items) = blocks_are p d h there pipe are s u lies.before lies.after lies.file lies.items 8 holds lies.split lies.among lies.block ∙ lies.stands in
-    block_is p d h there (block_of lies.items) (found h.id.seq (files_of p) lies.file lies.among (sym lies.block.seq)) are is
+    block_is p d lies.handle (bytes_there d lies.handle lies.file) (block_of lies.items) (found lies.handle.id.seq (files_of p) lies.file lies.among (sym lies.block.seq)) (lies_there p d (s ++ u) pipe e bytes lies)
+    (lies_sealed p d s u pipe holds e bytes lies)
 
 -- an entry that lies in a batch of a pipe, in its block there
 lies_read : (p : SinglePipe) (d : Disk) (s u : Numbered) → IsPipe p d → Holds p d s u → (e : EntryIndex) (bytes : List ℕ) → (lies : LiesIn p (s ++ u) e bytes)

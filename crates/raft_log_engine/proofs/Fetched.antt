@@ -1,5 +1,5 @@
 -- Entries of a range, from where they lie.
-use Rattle.std.proofs.Common.{◌≡◌, ◌⊎◌, inl, inr, ℕ, zero, suc, ◌+◌, ◌-◌, ◌<◌, ◌≤◌, Bool, true, false, List, [], ◌∷◌, ◌++◌, length, map, Option, Some, None, Vec, Global, refl, sym, ap, subst, ◌∙◌, arith, length-append}
+use Rattle.std.proofs.Common.{◌≡◌, ◌⊎◌, inl, inr, ℕ, suc, ◌+◌, ◌<◌, ◌≤◌, Bool, true, false, List, [], ◌∷◌, ◌++◌, length, map, Option, Some, None, Vec, Global, refl, sym, ap, subst, ◌∙◌, arith}
 use Rattle.std.proofs.lemmas.Bool.{cases_lt}
 use Rattle.std.proofs.lemmas.List.{length-map}
 use Rattle.std.proofs.lemmas.List.Sums.{sum_by-append, sum_by-cons}
@@ -92,14 +92,16 @@ no_place es e none there =
 
 pub fetched_there : (group : GroupContent EntryIndex) (begin end : ℕ) (size : Option ℕ) (es : List EntryIndex)
     → (group.there ≡ true → begin < end → IsInside group.entry begin end × AreFetched group.entry begin end size es) → (end ≤ begin → es ≡ []) → (group.there ≡ false → es ≡ [])
-    → (e : EntryIndex) → Contains es e → (index : ℕ) × (group.entry index ≡ Some e)
+    → (e : EntryIndex) → Contains es e → (index : ℕ) × (begin ≤ index) × (index < end) × (group.entry index ≡ Some e)
 fetched_there group begin end size es some none unknown e among = by_flag group.there refl
   where
-    by_test : group.there ≡ true → (begin < end) ⊎ (end ≤ begin) → (index : ℕ) × (group.entry index ≡ Some e)
-    by_test there (inl lt) = (begin + among.0, sym ((some there lt).1.each among.0 among.1) ∙ slice_get_read es (length es) among.0 e refl among.1 (sym among.2))
+    by_test : group.there ≡ true → (begin < end) ⊎ (end ≤ begin) → (index : ℕ) × (begin ≤ index) × (index < end) × (group.entry index ≡ Some e)
+    by_test there (inl lt) =
+        let f = (some there lt).1 in
+        (begin + among.0, omega arith, omega (arith, f.short, among.1), sym (f.each among.0 among.1) ∙ slice_get_read es (length es) among.0 e refl among.1 (sym among.2))
     by_test there (inr ge) = absurd (no_place es e (none ge) among)
 
-    by_flag : (t : Bool) → group.there ≡ t → (index : ℕ) × (group.entry index ≡ Some e)
+    by_flag : (t : Bool) → group.there ≡ t → (index : ℕ) × (begin ≤ index) × (index < end) × (group.entry index ≡ Some e)
     by_flag true there = by_test there (cases_lt begin end)
     by_flag false un = absurd (no_place es e (unknown un) among)
 

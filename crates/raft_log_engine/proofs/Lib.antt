@@ -20,3 +20,4 @@ pub mod Crashes
 pub mod Taken
 pub mod Corrupt
 pub mod Caused
+pub mod Whole

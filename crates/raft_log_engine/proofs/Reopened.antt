@@ -1,5 +1,5 @@
 -- An opening of what a crash left of an engine's files answers what the engine answered.
-use Rattle.std.proofs.Common.{◌≡◌, inl, inr, ⊎_elim, ℕ, Bool, true, false, List, [], ◌∷◌, ◌++◌, map, take, Vec, Global, refl, sym, ap, subst, ◌∙◌}
+use Rattle.std.proofs.Common.{◌≡◌, inl, inr, ⊎_elim, ℕ, Bool, true, false, List, [], ◌∷◌, ◌++◌, map, take, Vec, Global, sym, ap, subst, ◌∙◌}
 use Rattle.std.proofs.lemmas.List.{append-nil}
 use Rattle.std.proofs.Math.Seq.{take-nil}
 use Rattle.std.specs.Prelude.{Option, Result, Ok, Err, OnOk, OnErr, String}

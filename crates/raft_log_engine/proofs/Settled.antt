@@ -1,5 +1,5 @@
 -- Blocks that are kept are those of batches, and stay so.
-use Rattle.std.proofs.Common.{◌≡◌, inl, inr, ℕ, ◌+◌, Bool, true, false, cond, List, [], ◌∷◌, ◌++◌, length, Option, Some, None, refl, sym, ap, subst, ◌∙◌, arith, length-append}
+use Rattle.std.proofs.Common.{◌≡◌, inl, inr, ℕ, Bool, true, false, cond, List, [], ◌∷◌, ◌++◌, length, Option, Some, None, refl, sym, ap, subst, ◌∙◌, arith, length-append}
 use Rattle.std.specs.Prelude.{◌⊎◌}
 use Rattle.std.specs.Option.{option_map}
 use Rattle.std.specs.Str.{bytes_eq}
@@ -37,7 +37,7 @@ abbrev told_apart : Disk → DualPipes → (FileBlockHandle → List ℕ) → En
 told_apart d p read e None = []
 told_apart d p read e (Some h) = entry_bytes (block_on d p h) e ++ cond (bytes_eq (read h) (block_on d p h)) [] (0 ∷ [])
 
-not_longer : (l : List ℕ) → l ++ 0 ∷ [] ≡ l → ⊥
+pub not_longer : (l : List ℕ) → l ++ 0 ∷ [] ≡ l → ⊥
 not_longer l is = omega (arith, length-append l (0 ∷ []), ap length is)
 
 same_block : (d : Disk) (p : DualPipes) (read : FileBlockHandle → List ℕ) (e : EntryIndex) (h : FileBlockHandle) → e.entries ≡ Some h → told_apart d p read e e.entries ≡ bytes_on d p e → read h ≡ block_on d p h
@@ -65,7 +65,7 @@ all_told : (d : Disk) (p : DualPipes) (r bs : Numbered) (read : FileBlockHandle 
 all_told d p r bs read reads on e bytes (inl lies) = lying_told d p p.rewrite r read e bytes lies (reads.rewrite e bytes lies) (on.rewrite e bytes lies)
 all_told d p r bs read reads on e bytes (inr lies) = lying_told d p p.append bs read e bytes lies (reads.append e bytes lies) (on.append e bytes lies)
 
-some_same : (one other : EntryIndex → List ℕ) (o : Option EntryIndex) (e : EntryIndex) → option_map one o ≡ option_map other o → o ≡ Some e → one e ≡ other e
+pub some_same : (one other : EntryIndex → List ℕ) (o : Option EntryIndex) (e : EntryIndex) → option_map one o ≡ option_map other o → o ≡ Some e → one e ≡ other e
 some_same one other o e same is =
     let both : Some (one e) ≡ Some (other e) = ap (option_map one) (sym is) ∙ same ∙ ap (option_map other) is in
     cc

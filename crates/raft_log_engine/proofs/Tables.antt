@@ -1,5 +1,5 @@
 -- The tables have the content of the batches, also with one more batch.
-use Rattle.std.proofs.Common.{◌≡◌, ◌⊎◌, inl, inr, ℕ, ◌+◌, ◌≤◌, Bool, true, false, List, [], ◌∷◌, ◌++◌, length, map, take, drop, Option, Some, None, refl, sym, ap, subst, ◌∙◌, arith, append_assoc, length-append, length-take, length-drop}
+use Rattle.std.proofs.Common.{◌≡◌, inl, inr, ℕ, ◌+◌, ◌≤◌, Bool, true, false, List, [], ◌∷◌, ◌++◌, length, map, take, drop, Option, Some, None, refl, sym, ap, subst, ◌∙◌, arith, append_assoc, length-append, length-take, length-drop}
 use Rattle.std.specs.Int.{w32, to_be_bytes}
 use Rattle.std.specs.List.{list_any}
 use Rattle.std.specs.Option.{option_map}
@@ -111,6 +111,19 @@ synced_kept d e p q tables r s u held pipes same other syncs = record {
   tabled = record {
     content = λ read reads. held.tabled.content read (either_lies p q r (s ++ u) (s ++ u) other.same (same_lies p.append q.append (s ++ u) (same_files p.append q.append same.0 same.1) (q.appends ∙ sym p.appends)) read reads);
     lengths = held.tabled.lengths;
+  };
+}
+
+-- batches that are all on the disk, and stay there, of files that stay
+pub kept_on : (d e : Disk) (p q : DualPipes) (tables : MemTables) (r bs : Numbered) → IsKept d p tables r bs → ArePipes q e → (q.append.active ≡ p.append.active) × (q.append.older ≡ p.append.older) → IsAsBefore p.rewrite d q.rewrite e
+    → Holds q.append e bs [] → IsKept e q tables r bs
+kept_on d e p q tables r bs kept pipes same other append = record {
+  pipes = pipes;
+  rewrite = other.holds r [] kept.rewrite;
+  append = append;
+  tabled = record {
+    content = λ read reads. kept.tabled.content read (either_lies p q r bs bs other.same (same_lies p.append q.append bs (same_files p.append q.append same.0 same.1) (q.appends ∙ sym p.appends)) read reads);
+    lengths = kept.tabled.lengths;
   };
 }
 

@@ -1,17 +1,15 @@
 -- Why a call of an engine is refused: each error comes only for its cause.
-use Rattle.std.specs.Prelude.{◌≡◌, ◌⊎◌, ℕ, ◌<◌, true, List, [], ◌∷◌, length, take, drop, Some, None}
-use Rattle.raft_log_records.specs.declared.error.RecordFault.{RecordFault}
-use Rattle.raft_log_records.specs.declared.error.RecordFault.TheVariants.{EntriesLength}
+use Rattle.std.specs.Prelude.{◌≡◌, ◌⊎◌, ℕ, ◌<◌, ◌≤◌, true, [], ◌∷◌, Some}
 use Rattle.raft_log_records.specs.declared.file_id.FileBlockHandle.{FileBlockHandle}
 use Rattle.raft_log_records.specs.declared.item.EntryIndex.{EntryIndex}
-use Rattle.raft_log_records.specs.Spelling.{sealed}
-use Rattle.raft_log_disk.specs.Disk.{Disk}
+use Rattle.raft_log_disk.specs.Disk.{Disk, HasOneOf, IsIn}
 use Rattle.raft_log_disk.specs.Cause.{Meter}
 use Rattle.raft_log_files.specs.declared.error.Error.{Error}
-use Rattle.raft_log_files.specs.declared.error.Error.TheVariants.{Corruption, Memory, EntryCompacted, EntryNotFound}
-use Rattle.raft_log_files.specs.declared.error.CorruptionFault.TheVariants.{Record}
+use Rattle.raft_log_files.specs.declared.error.DiskRefusal.TheVariants.{Refused}
+use Rattle.raft_log_files.specs.declared.error.Error.TheVariants.{Io, Memory, EntryCompacted, EntryNotFound}
 use Rattle.raft_log_file.specs.Laws.{Batch}
-use Rattle.raft_log_pipe.specs.Blocks.{AreOfFile, IsBlockFault}
+use Rattle.raft_log_pipe.specs.declared.file.File.{File}
+use Rattle.raft_log_pipe.specs.Blocks.{files_of}
 use Rattle.raft_log_pipe.specs.Caused.{IsAppendFault, IsRefusalOrMemory}
 use Rattle.raft_log_pipes.specs.declared.pipes.DualPipes.{DualPipes}
 use Rattle.raft_log_pipes.specs.Pipes.{pipe_of}
@@ -19,8 +17,6 @@ use Rattle.raft_log_memtables.specs.declared.fetch.FetchError.{FetchError}
 use Rattle.raft_log_memtables.specs.declared.fetch.FetchError.TheVariants as fetch
 use Rattle.raft_log_memtables.specs.Content.{GroupContent}
 use Rattle.raft_log_memtables.specs.Fetch.{IsCompacted, IsLacking}
-use Rattle.raft_log_memtables.specs.MemTables.{content_in}
-use Rattle.raft_log_engine.specs.Blocks.{block_on}
 use Rattle.raft_log_engine.specs.Held.{Parts}
 use Rattle.raft_log_engine.specs.Reads.{IsStopped}
 use Rattle.raft_log_engine.specs.Taken.{IsMarked, IsNotTaken}
@@ -54,34 +50,36 @@ IsCompactionFault disk e old new fault = AreItemsRefused disk e ⊥ ⊥ old new 
 
 -- ---- reads of entries
 
--- the bytes of a block are no entries with their checksum
-abbrev pub IsNoBlock : Disk → DualPipes → FileBlockHandle → Type 0
-IsNoBlock d p h = (bytes : List ℕ) × AreOfFile (pipe_of p h.id.queue) d h bytes × ((entries : List ℕ) → bytes ≡ sealed None entries → ⊥)
-
--- a block isn't read from its file, or is none
+-- the file system refuses reads of the file that a block stands in
 abbrev pub IsBlockUnread : Disk → DualPipes → Meter → FileBlockHandle → EngineFault → Type 0
 IsBlockUnread d p meter h fault =
-    ((x : Error) × (fault ≡ Log x) × IsBlockFault (pipe_of p h.id.queue) d meter h x) ⊎ ((f : RecordFault) × (fault ≡ Log (Corruption (Record f))) × IsNoBlock d p h)
+    (fault ≡ Log (Io Refused)) × ((f : File) × IsIn f (files_of (pipe_of p h.id.queue)) × (f.seq ≡ h.id.seq) × HasOneOf d f.handle.0 meter.unreadable)
 
--- the block of an entry isn't read, or ends before the entry
-abbrev pub IsPlacedFault : Disk → DualPipes → Meter → EntryIndex → FileBlockHandle → EngineFault → Type 0
-IsPlacedFault d p meter e h fault = IsBlockUnread d p meter h fault ⊎ ((fault ≡ Log (Corruption (Record EntriesLength))) × (length (block_on d p h) < e.entry_offset))
+-- memory is missing, or the block is so
+abbrev pub IsUnread : Disk → DualPipes → Meter → FileBlockHandle → EngineFault → Type 0
+IsUnread d p meter h fault = (fault ≡ Log Memory) ⊎ IsBlockUnread d p meter h fault
 
--- memory is missing, the entry has no block, or its block is so
+-- memory is missing, or the block of the entry is so
 abbrev pub IsCopyFault : Disk → DualPipes → Meter → EntryIndex → EngineFault → Type 0
-IsCopyFault d p meter e fault =
-    (fault ≡ Log Memory) ⊎ (((fault ≡ Log EntryNotFound) × (e.entries ≡ None)) ⊎ ((h : FileBlockHandle) × (e.entries ≡ Some h) × IsPlacedFault d p meter e h fault))
+IsCopyFault d p meter e fault = (fault ≡ Log Memory) ⊎ ((h : FileBlockHandle) × (e.entries ≡ Some h) × IsBlockUnread d p meter h fault)
 
--- why an entry of a group isn't read
-abbrev pub IsGetFault : {F : Type 0} → (F → Disk) → (F → Meter) → Parts F → GroupContent EntryIndex → EngineFault → Type 0
-IsGetFault disk meter e group fault =
-    IsStopped e.is_stopped fault
-    ⊎ ((fault ≡ Log Memory) ⊎ ((index : ℕ) × (place : EntryIndex) × (group.entry index ≡ Some place) × IsCopyFault (disk e.files) e.pipes (meter e.files) place fault))
+-- a group has an entry with this index, and it isn't read
+abbrev pub IsEntryFault : {F : Type 0} → (F → Disk) → (F → Meter) → Parts F → GroupContent EntryIndex → ℕ → EngineFault → Type 0
+IsEntryFault disk meter e group index fault = (place : EntryIndex) × (group.entry index ≡ Some place) × IsCopyFault (disk e.files) e.pipes (meter e.files) place fault
 
--- why entries from an index on aren't fetched: they begin before the first one, one of them is lacking, or one isn't read
+-- why the entry of a group with this index isn't read: no other entry is the cause, and no block is `Corruption`
+abbrev pub IsGetFault : {F : Type 0} → (F → Disk) → (F → Meter) → Parts F → GroupContent EntryIndex → ℕ → EngineFault → Type 0
+IsGetFault disk meter e group index fault = IsStopped e.is_stopped fault ⊎ IsEntryFault disk meter e group index fault
+
+-- one of the entries of a range isn't read
+abbrev pub IsRangeFault : {F : Type 0} → (F → Disk) → (F → Meter) → Parts F → GroupContent EntryIndex → ℕ → ℕ → EngineFault → Type 0
+IsRangeFault disk meter e group begin end fault = (index : ℕ) × (begin ≤ index) × (index < end) × IsEntryFault disk meter e group index fault
+
+-- why entries from an index on aren't fetched: they begin before the first one, one of them is lacking, or one of them isn't read
 abbrev pub IsFetchFault : {F : Type 0} → (F → Disk) → (F → Meter) → Parts F → GroupContent EntryIndex → ℕ → ℕ → EngineFault → Type 0
 IsFetchFault disk meter e group begin end fault =
-    ((fault ≡ Log EntryCompacted) × IsCompacted group.entry begin) ⊎ (((fault ≡ Log EntryNotFound) × IsLacking group.entry begin end) ⊎ IsGetFault disk meter e group fault)
+    ((fault ≡ Log EntryCompacted) × IsCompacted group.entry begin) ⊎ (((fault ≡ Log EntryNotFound) × IsLacking group.entry begin end)
+    ⊎ (IsStopped e.is_stopped fault ⊎ ((fault ≡ Log Memory) ⊎ IsRangeFault disk meter e group begin end fault)))
 
 -- what a refusal of the tables is told as
 abbrev pub fetch_fault : FetchError → EngineFault

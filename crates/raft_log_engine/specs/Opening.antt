@@ -4,15 +4,20 @@ use Rattle.raft_log_records.specs.declared.file_id.LogQueue.{LogQueue}
 use Rattle.raft_log_records.specs.declared.file_id.LogQueue.TheVariants.{Append, Rewrite}
 use Rattle.raft_log_disk.specs.Text.{Text}
 use Rattle.raft_log_disk.specs.Disk.{Disk}
+use Rattle.raft_log_files.specs.Settings.{Settings}
 use Rattle.raft_log_files.specs.declared.recovery.RecoveryMode.{RecoveryMode}
+use Rattle.raft_log_files.specs.declared.recovery.RecoveryMode.TheVariants.{TolerateAnyCorruption}
+use Rattle.raft_log_pipe.specs.declared.pipe.SinglePipe.{SinglePipe}
 use Rattle.raft_log_pipe.specs.Pipe.{Numbered}
 use Rattle.raft_log_pipes.specs.declared.pipes.DualPipes.{DualPipes}
+use Rattle.raft_log_pipes.specs.Pipes.{pipe_of}
 use Rattle.raft_log_memtables.specs.declared.memtables.MemTables.{MemTables}
 use Rattle.raft_log_memtables.specs.Content.{Content}
 use Rattle.raft_log_recovery.specs.declared.scan.FileKind.TheVariants.{Log}
 use Rattle.raft_log_recovery.specs.declared.scan.FileName.{FileName}
 use Rattle.raft_log_recovery.specs.Again.{FindsSound}
 use Rattle.raft_log_recovery.specs.Both.{ChangesBoth, LeavesQueue}
+use Rattle.raft_log_recovery.specs.Crashed.{HasHole}
 use Rattle.raft_log_recovery.specs.Opening.{AnyAligned}
 use Rattle.raft_log_recovery.specs.Queue.{AnyRefused}
 use Rattle.raft_log_recovery.specs.Scan.{AreFound, OnlyMakes}
@@ -60,6 +65,18 @@ pub record CantBeOpened (mode : RecoveryMode) (directories : List Text) (queue :
   pub makes : OnlyMakes directories d made
   pub found : AreFound made (Log queue) directories names
   pub refused : AnyRefused mode directories queue names made ⊎ AnyAligned directories queue names made
+
+-- a pipe begins files of the size and format that the settings say
+abbrev pub IsSetAs : Settings → SinglePipe → Type 0
+IsSetAs settings p = (p.target_file_size ≡ settings.target_file_size.0) × (p.default_format ≡ record { version = settings.format_version; alignment = 0 })
+
+-- so do both
+abbrev pub AreSetAs : Settings → DualPipes → Type 0
+AreSetAs settings p = IsSetAs settings p.append × IsSetAs settings p.rewrite
+
+-- a pipe has a hole only where the mode cuts any fault away
+abbrev pub HasHolesIn : RecoveryMode → Disk → DualPipes → Type 0
+HasHolesIn mode d p = (queue : LogQueue) → HasHole (pipe_of p queue) d → mode ≡ TolerateAnyCorruption
 
 -- the pipes hold just those batches, and the tables have their content
 pub record IsRecoveredAs (mode : RecoveryMode) (directories : List Text) (d new : Disk) (p : DualPipes) (tables : MemTables) : Type 0 where

@@ -55,3 +55,8 @@ directories_of_engine e = directories_of_pipes e.pipes
 -- its files are the last ones of both queues there
 abbrev pub StandsAlone : {F : Type 0} → (F → Disk) → Parts F → Type 0
 StandsAlone disk e = StandAlone e.pipes (disk e.files)
+
+-- They are, and an opening that tolerates a torn tail refuses nothing that a crash leaves of them, but where a pipe has a hole
+pub record StandsInTail {F : Type 0} (disk : F → Disk) (e : Parts F) : Type 0 where
+  pub alone : StandsAlone disk e
+  pub opens : OpensInTail (directories_of_engine e) (disk e.files) e.pipes

@@ -1,8 +1,8 @@
 //! Entries and their blocks.
-ghost use Rattle.std.specs.Prelude.{◌≡◌, ◌⊎◌, ◌+◌, ◌<◌, ◌≤◌, Contains, IfErr, IfOk, IfSome, IsNone, length, map};
-ghost use Rattle.raft_log_engine.specs.Blocks.{IsReadAs};
+ghost use Rattle.std.specs.Prelude.{◌≡◌, ◌⊎◌, ◌+◌, ◌≤◌, Contains, IfErr, IfOk, length, map};
+ghost use Rattle.raft_log_engine.specs.Blocks.{HasBlock, IsReadAs, StandsWhole};
 ghost use Rattle.raft_log_engine.specs.Cached.{AreRead, KeepsMore};
-ghost use Rattle.raft_log_engine.specs.Caused.{IsBlockUnread, IsCopyFault, fetch_fault};
+ghost use Rattle.raft_log_engine.specs.Caused.{IsCopyFault, IsUnread, fetch_fault};
 ghost use Rattle.raft_log_engine.specs.Held.{bytes_on};
 ghost use Rattle.raft_log_engine.specs.declared.fault.EngineFault.TheVariants.{Log};
 ghost use Rattle.raft_log_files.specs.declared.error.CorruptionFault.TheVariants.{Record};
@@ -11,7 +11,6 @@ ghost use Rattle.raft_log_pipes.specs.Pipes.{ArePipes};
 ghost use Rattle.raft_log_records.specs.Batch.{payloads};
 ghost use Rattle.raft_log_records.specs.Item.{entry_bytes};
 ghost use Rattle.raft_log_records.specs.declared.error.RecordError.TheVariants as record_error;
-ghost use Rattle.raft_log_records.specs.declared.error.RecordFault.TheVariants.{EntriesLength};
 ghost use Rattle.raft_log_records.specs.declared.item.EntryIndex.{EntryIndex};
 
 use crate::block_cache::BlockCache;
@@ -39,28 +38,25 @@ pub(crate) fn of_record(error: RecordError) -> EngineFault
     }
 }
 
-/// The bytes of an entry in those of its block. None where the block ends before the entry.
-fn bytes_of(entries: &[u8], place: EntryIndex) -> Option<&[u8]>
-    ensures found { IfSome result (λ v. v.now ≡ entry_bytes entries.now place) }
-    ensures none { IsNone result → length entries.now < place.entry_offset }
+/// The bytes of an entry in those of its block.
+fn bytes_of(entries: &[u8], place: EntryIndex) -> &[u8]
+    ensures { result.now ≡ entry_bytes entries.now place }
 {
-    let start = place.entry_offset as usize;
-    if entries.len() < start {
-        return None;
-    }
-    let rest = &entries[start..];
-    Some(&rest[..rest.len().min(place.entry_len as usize)])
+    let rest = &entries[entries.len().min(place.entry_offset as usize)..];
+    &rest[..rest.len().min(place.entry_len as usize)]
 }
 
-/// Reads the entries of a block, without its checksum, which is checked.
+/// Reads the entries of a block, without its checksum, which is checked. It is never refused as
+/// `Corruption`: the block stands whole.
 fn read_block<F: FileSystem>(
     files: &F,
     pipes: &DualPipes,
     handle: FileBlockHandle,
 ) -> Result<Vec<u8>, EngineFault>
-    requires { ArePipes pipes.now (F.disk files.now) }
+    requires pipes { ArePipes pipes.now (F.disk files.now) }
+    requires whole { StandsWhole (F.disk files.now) pipes.now handle }
     ensures read { IfOk result (λ entries. IsReadAs (F.disk files.now) pipes.now handle entries.items) }
-    ensures err { IfErr result (λ fault. IsBlockUnread (F.disk files.now) pipes.now (F.meter files.now) handle fault) }
+    ensures err { IfErr result (λ fault. IsUnread (F.disk files.now) pipes.now (F.meter files.now) handle fault) }
 {
     let mut bytes = pipes.read_bytes(files, handle)?;
     let len = match read_entries_block(&bytes) {
@@ -74,12 +70,9 @@ fn read_block<F: FileSystem>(
 /// A copy of an entry's bytes in those of its block.
 fn copy_in(alloc: Global, entries: &[u8], place: EntryIndex) -> Result<Vec<u8>, EngineFault>
     ensures copied { IfOk result (λ v. v.items ≡ entry_bytes entries.now place) }
-    ensures err { IfErr result (λ fault. (fault ≡ Log Memory) ⊎ ((fault ≡ Log (Corruption (Record EntriesLength))) × (length entries.now < place.entry_offset))) }
+    ensures err { IfErr result (λ fault. fault ≡ Log Memory) }
 {
-    let Some(bytes) = bytes_of(entries, place) else {
-        return Err(corrupt(RecordFault::EntriesLength));
-    };
-    Ok(Vec::from_slice(alloc, bytes)?)
+    Ok(Vec::from_slice(alloc, bytes_of(entries, place))?)
 }
 
 /// A copy of an entry's bytes, from its block: one that is kept, or one that is read from its file
@@ -94,6 +87,7 @@ pub(crate) fn copy_of<F: FileSystem>(
 ) -> Result<Vec<u8>, EngineFault>
     requires pipes { ArePipes pipes.now (F.disk files.now) }
     requires read { AreRead (F.disk files.now) pipes.now cache.old }
+    requires block { HasBlock (F.disk files.now) pipes.now place }
     ensures copied { IfOk result (λ v. v.items ≡ bytes_on (F.disk files.now) pipes.now place) }
     ensures err { IfErr result (λ fault. IsCopyFault (F.disk files.now) pipes.now (F.meter files.now) place fault) }
     ensures kept { KeepsMore (F.disk files.now) pipes.now (λ e. e ≡ place) cache.old cache.new }
@@ -123,6 +117,7 @@ pub(crate) fn copies_of<F: FileSystem>(
 ) -> Result<Vec<Vec<u8>>, EngineFault>
     requires pipes { ArePipes pipes.now (F.disk files.now) }
     requires read { AreRead (F.disk files.now) pipes.now cache.old }
+    requires blocks { (place : EntryIndex) → Contains places.now place → HasBlock (F.disk files.now) pipes.now place }
     ensures copied { IfOk result (λ found. payloads found.items ≡ map (bytes_on (F.disk files.now) pipes.now) places.now) }
     ensures err { IfErr result (λ fault. (fault ≡ Log Memory) ⊎ ((place : EntryIndex) × Contains places.now place × IsCopyFault (F.disk files.now) pipes.now (F.meter files.now) place fault)) }
     ensures kept { KeepsMore (F.disk files.now) pipes.now (Contains places.now) cache.old cache.new }

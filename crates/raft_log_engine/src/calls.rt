@@ -1,11 +1,11 @@
 //! Writes and reads of an engine.
 ghost use Rattle.std.specs.Prelude.{◌≡◌, ◌≤◌, ◌+◌, ◌++◌, ℕ, List, [], true, false, Err, IfErr, IfOk, OnOk, OnErr, length, option_map};
-ghost use Rattle.raft_content_log.specs.Leaving.{AgreesElsewhere, IsWritten, LeavesElsewhere, MayBeWritten};
+ghost use Rattle.raft_content_log.specs.Leaving.{AgreesElsewhere, IsWritten, LeavesElsewhere, LeavesNoMore, MayBeWritten};
 ghost use Rattle.raft_log_disk.specs.Cause.{NothingRefuses, RefusesNoMore};
 ghost use Rattle.raft_log_engine.specs.Caused.{IsFetchFault, IsSyncFault, IsWriteFault};
 ghost use Rattle.raft_log_engine.specs.Left.{IsSound, answers_on, leaves_on};
 ghost use Rattle.raft_log_engine.specs.Reads.{HasRead, IsStopped, IsTableFault};
-ghost use Rattle.raft_log_engine.specs.Reopened.{OpensAs, OpensAsEither, OpensAsFront, OpensInTail, StandsAlone, directories_of_engine};
+ghost use Rattle.raft_log_engine.specs.Reopened.{OpensAs, OpensAsEither, OpensAsFront, OpensInTail, StandsAlone, StandsInTail, directories_of_engine};
 ghost use Rattle.raft_log_engine.specs.Since.{HasWritten, written_batch};
 ghost use Rattle.raft_log_engine.specs.Taken.{IsSyncTaken, IsWriteTaken};
 ghost use Rattle.raft_log_engine.specs.declared.fault.EngineFault.TheVariants.{Stopped};
@@ -34,9 +34,10 @@ fn skips_sync(before: bool, sync: bool) -> bool
 
 impl<F: FileSystem + Drop> Engine<F> {
     /// Writes a batch (raft-engine's `write`), and syncs it where that is asked for. Before anything
-    /// is written it is refused as `Marked` or `NotTaken`. An empty batch writes nothing, but may be
-    /// synced. After a refusal by the files, or where memory runs out behind the append, the engine
-    /// is stopped. Of batches that weren't synced a crash leaves a front.
+    /// is written it is refused as `Marked` or `NotTaken`. An empty batch writes nothing; with a sync
+    /// the append queue is synced all the same, and what was written before is on the disk then. After
+    /// a refusal by the files, or where memory runs out behind the append, the engine is stopped. Of
+    /// batches that weren't synced a crash leaves a front.
     /// Answers how many bytes the batch's record has, none for an empty batch.
     pub fn write(&mut self, batch: &mut LogBatch, sync: bool) -> Result<usize, EngineFault>
         ensures answers { OnOk result (answers_on F.disk self.new ≡ after_batch batch.old.items (answers_on F.disk self.old)) }
@@ -49,6 +50,7 @@ impl<F: FileSystem + Drop> Engine<F> {
         ensures alone { StandsAlone F.disk self.old → OnOk result (StandsAlone F.disk self.new) }
         ensures opens { StandsAlone F.disk self.old → OnOk result (sync ≡ true → OpensAs (directories_of_engine self.new) (F.disk self.new.files) (answers_on F.disk self.new)) }
         ensures opens_in_tail { StandsAlone F.disk self.old → OnOk result (OpensInTail (directories_of_engine self.new) (F.disk self.new.files) self.new.pipes) }
+        ensures goes_on_in_tail { StandsAlone F.disk self.old → self.new.is_stopped ≡ false → StandsInTail F.disk self.new }
         ensures opens_either { IsSound self.old → StandsAlone F.disk self.old → OnErr result (OpensAsEither (directories_of_engine self.new) (F.disk self.new.files)
             (answers_on F.disk self.old) (after_batch batch.old.items (answers_on F.disk self.old))) }
         ensures written { (before : Content (List ℕ)) (batches : List Batch) → HasWritten F.disk self.old before batches
@@ -95,20 +97,26 @@ impl<F: FileSystem + Drop> Engine<F> {
         Ok(len)
     }
 
-    /// Brings what was written onto the disk (raft-engine's `sync`). Where each write was synced
-    /// there is nothing to do, and nothing of the rewrite queue waits for a sync. After a refusal the
-    /// engine is stopped.
+    /// Brings what was written onto the disk (raft-engine's `sync`): the append queue is synced, also
+    /// where each write was. Nothing of the rewrite queue waits for a sync. After a refusal the
+    /// engine is stopped, and what was on the disk stays.
     pub fn sync(&mut self) -> Result<(), EngineFault>
         ensures answers { OnOk result (answers_on F.disk self.new ≡ answers_on F.disk self.old) }
-        ensures sound { IsSound self.old → self.new ≡ self.old }
+        ensures sound { IsSound self.old → OnOk result (IsSound self.new) }
+        ensures kept { IsSound self.new → IsSound self.old × (answers_on F.disk self.new ≡ answers_on F.disk self.old) }
+        ensures left { LeavesNoMore (leaves_on F.disk self.old) (leaves_on F.disk self.new) }
         ensures paths { self.new.pipes.append.paths ≡ self.old.pipes.append.paths }
         ensures alone { StandsAlone F.disk self.old → StandsAlone F.disk self.new }
         ensures opens { StandsAlone F.disk self.old → OnOk result (OpensAs (directories_of_engine self.new) (F.disk self.new.files) (answers_on F.disk self.new)) }
+        ensures opens_still { IsSound self.old → StandsAlone F.disk self.old → OpensAs (directories_of_engine self.new) (F.disk self.new.files) (answers_on F.disk self.old) }
         ensures opens_in_tail { StandsAlone F.disk self.old → OnOk result (OpensInTail (directories_of_engine self.new) (F.disk self.new.files) self.new.pipes) }
+        ensures goes_on_in_tail { StandsAlone F.disk self.old → self.new.is_stopped ≡ false → StandsInTail F.disk self.new }
         ensures written { (before : Content (List ℕ)) (batches : List Batch) → HasWritten F.disk self.old before batches → HasWritten F.disk self.new before batches }
         ensures opens_front { (before : Content (List ℕ)) (batches : List Batch) → StandsAlone F.disk self.old → HasWritten F.disk self.old before batches
             → OpensAsFront (directories_of_engine self.new) (F.disk self.new.files) before batches }
         ensures all_written { OnOk result (HasWritten F.disk self.new (answers_on F.disk self.new) []) }
+        ensures tail_still { (before : Content (List ℕ)) (batches : List Batch) → StandsAlone F.disk self.old → HasWritten F.disk self.old before batches
+            → OpensInTail (directories_of_engine self.new) (F.disk self.new.files) self.new.pipes }
         ensures flag { self.new.wrote_unsynced ≡ self.old.wrote_unsynced }
         ensures stopped { self.old.is_stopped ≡ true → result ≡ Err Stopped }
         ensures later { RefusesNoMore (F.is_bounded self.old.files) (F.is_bounded self.new.files) (F.meter self.old.files) (F.meter self.new.files) }
@@ -117,9 +125,6 @@ impl<F: FileSystem + Drop> Engine<F> {
     {
         if self.is_stopped {
             return Err(EngineFault::Stopped);
-        }
-        if !self.wrote_unsynced {
-            return Ok(());
         }
         if let Err(error) = self.pipes.sync(&mut self.files, LogQueue::Append) {
             self.is_stopped = true;

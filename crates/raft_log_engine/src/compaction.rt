@@ -1,11 +1,11 @@
 //! Compaction of a group.
-ghost use Rattle.std.specs.Prelude.{◌≡◌, ◌∷◌, ◌++◌, ℕ, List, [], true, Err, IfOk, IfErr, OnOk, OnErr};
+ghost use Rattle.std.specs.Prelude.{◌≡◌, ◌∷◌, ◌++◌, ℕ, List, [], true, false, Err, IfOk, IfErr, OnOk, OnErr};
 ghost use Rattle.raft_content_log.specs.Leaving.{AgreesElsewhere, IsWritten, LeavesElsewhere, MayBeWritten};
 ghost use Rattle.raft_log_disk.specs.Cause.{NothingRefuses, RefusesNoMore};
 ghost use Rattle.raft_log_engine.specs.Caused.{IsCompactionFault};
 ghost use Rattle.raft_log_engine.specs.Left.{IsSound, answers_on, leaves_on};
 ghost use Rattle.raft_log_engine.specs.Reads.{compaction};
-ghost use Rattle.raft_log_engine.specs.Reopened.{OpensAs, OpensAsEither, OpensAsFront, OpensInTail, StandsAlone, directories_of_engine};
+ghost use Rattle.raft_log_engine.specs.Reopened.{OpensAs, OpensAsEither, OpensAsFront, OpensInTail, StandsAlone, StandsInTail, directories_of_engine};
 ghost use Rattle.raft_log_engine.specs.Since.{HasWritten};
 ghost use Rattle.raft_log_engine.specs.Taken.{IsCompactionTaken};
 ghost use Rattle.raft_log_engine.specs.declared.fault.EngineFault.TheVariants.{Log, Stopped};
@@ -47,6 +47,7 @@ impl<F: FileSystem + Drop> Engine<F> {
         ensures alone { StandsAlone F.disk self.old → OnOk result (StandsAlone F.disk self.new) }
         ensures opens { StandsAlone F.disk self.old → OnOk result (OpensAs (directories_of_engine self.new) (F.disk self.new.files) (answers_on F.disk self.new)) }
         ensures opens_in_tail { StandsAlone F.disk self.old → OnOk result (OpensInTail (directories_of_engine self.new) (F.disk self.new.files) self.new.pipes) }
+        ensures goes_on_in_tail { StandsAlone F.disk self.old → self.new.is_stopped ≡ false → StandsInTail F.disk self.new }
         ensures opens_either { IsSound self.old → StandsAlone F.disk self.old → OnErr result (OpensAsEither (directories_of_engine self.new) (F.disk self.new.files)
             (answers_on F.disk self.old) (after_batch (compaction group index ∷ []) (answers_on F.disk self.old))) }
         ensures written { (before : Content (List ℕ)) (batches : List Batch) → HasWritten F.disk self.old before batches

@@ -2,18 +2,19 @@
 //!
 //! The calls of an engine hold for each file system. The log is over one of them: in an impl of a
 //! trait no bound of a type parameter says that it crosses threads, and a file system does.
-ghost use Rattle.std.specs.Prelude.{◌≡◌, ℕ, List, false, Err, IfOk, IfErr, OnOk, OnErr};
+ghost use Rattle.std.specs.Prelude.{◌≡◌, ℕ, List, true, false, Err, IfOk, IfErr, IsErrAnd, OnOk, OnErr};
 ghost use Rattle.raft_content_log.specs.Leaving.{LeavesOnly};
 ghost use Rattle.raft_log_disk.specs.declared.crash.CrashRefusal.TheVariants.{ByChance, NotAnImage};
 ghost use Rattle.raft_log_disk.specs.Chance.{IsGenuineImage};
 ghost use Rattle.raft_log_disk.specs.Disk.{Disk};
 ghost use Rattle.raft_log_disk.specs.Image.{Image, seen_image};
-ghost use Rattle.raft_log_disk.specs.MemorySystem.{disk_in};
+ghost use Rattle.raft_log_disk.specs.MemorySystem.{disk_in, meter_in};
+ghost use Rattle.raft_log_engine.specs.Caused.{IsSyncFault};
 ghost use Rattle.raft_log_engine.specs.declared.fault.EngineFault.TheVariants as engine_fault;
 ghost use Rattle.raft_log_engine.specs.Closing.{handed_back};
 ghost use Rattle.raft_log_engine.specs.Left.{answers_on};
 ghost use Rattle.raft_log_engine.specs.Log.{IsFoundBy, leaves_of_log, main_directory};
-ghost use Rattle.raft_log_engine.specs.Opening.{CantBeOpened, IsLeftByOpening};
+ghost use Rattle.raft_log_engine.specs.Opening.{AreSetAs, CantBeOpened, HasHolesIn, IsLeftByOpening};
 ghost use Rattle.raft_log_engine.specs.Reopened.{OpensInTail};
 ghost use Rattle.raft_log_files.specs.declared.error.CorruptionFault.{CorruptionFault};
 ghost use Rattle.raft_log_files.specs.declared.error.Error.TheVariants.{Corruption};
@@ -73,21 +74,12 @@ impl Model for MemoryLog {
 fn in_one_directory(settings: &Config) -> Result<Config, AllocError>
     ensures directories { IfOk result (λ config. directories_of (settings_of config) ≡ main_directory settings.now) }
     ensures mode { IfOk result (λ config. config.recovery_mode ≡ settings.now.recovery_mode) }
+    ensures sizes { IfOk result (λ config. (config.target_file_size ≡ settings.now.target_file_size) × (config.format_version ≡ settings.now.format_version)) }
     ensures once { IfOk result (λ config. (names : Names) (queue : LogQueue) → IsOnce names (directories_of (settings_of config)) queue) }
 {
     let mut config = settings.clone()?;
     config.spill_dir = None;
     Ok(config)
-}
-
-/// The files that a close hands back: a refusal is passed over.
-fn files_of(closed: Result<MemoryFileSystem, NotClosed<MemoryFileSystem>>) -> MemoryFileSystem
-    ensures { result ≡ handed_back closed }
-{
-    match closed {
-        Ok(files) => files,
-        Err(NotClosed { fault: _, files }) => files,
-    }
 }
 
 impl LogFiles {
@@ -142,6 +134,8 @@ impl MemoryLog {
         ensures leaves { IfOk result (λ l. LeavesOnly (leaves_of_log disk_in l) (answers_on disk_in l.engine)) }
         ensures opens_in_tail { IfOk result (λ l. OpensInTail (main_directory l.settings) (disk_in l.engine.files) l.engine.pipes) }
         ensures settings { IfOk result (λ l. l.settings ≡ files.settings) }
+        ensures set { IfOk result (λ l. AreSetAs (settings_of files.settings) l.engine.pipes) }
+        ensures holes { IfOk result (λ l. HasHolesIn files.settings.recovery_mode (disk_in l.engine.files) l.engine.pipes) }
         ensures refused { IfErr result (λ refused. refused.files.settings ≡ files.settings) }
         ensures err { IfErr result (λ refused. IsLeftByOpening files.settings.recovery_mode (main_directory files.settings) (disk_in files.files) (disk_in refused.files.files)) }
         ensures reads { IfErr result (λ refused. (content : Content (List ℕ)) → IsFoundBy files.settings (disk_in refused.files.files) content
@@ -176,25 +170,39 @@ impl MemoryLog {
         self.engine.files()
     }
 
-    /// The files, handed back (raft-engine's `close`): the last one is cut behind its last record and
-    /// synced; a refusal is passed over, and a log that has failed makes no call. What an opening finds
-    /// of them, after a crash or as they are, is what the log answered, or what a failed one left;
-    /// of files as they are unless they show by chance what nobody wrote.
-    pub fn close(self) -> LogFiles
-        ensures settings { result.settings ≡ self.settings }
-        ensures opens { (image : Image) (d : Disk) (content : Content (List ℕ)) → self.has_failed ≡ false → IsCrashed (disk_in result.files) image d
-            → IsFoundBy result.settings d content → content ≡ answers_on disk_in self.engine }
-        ensures crashed { (image : Image) (d : Disk) (content : Content (List ℕ)) → IsCrashed (disk_in result.files) image d → IsFoundBy result.settings d content
+    /// The files, handed back in any case (raft-engine's `close`): after `Ok` the last one of each queue
+    /// is cut behind its last record and synced. A refusal is told; a log that has failed is `Stopped`,
+    /// with no call. What an opening finds of the files, after a crash or as they are, is what the log
+    /// answered, or what a failed one left; of files as they are unless they show by chance what nobody
+    /// wrote.
+    pub fn close(self) -> Result<LogFiles, NotClosed<LogFiles>>
+        ensures settings { (handed_back result).settings ≡ self.settings }
+        ensures opens { (image : Image) (d : Disk) (content : Content (List ℕ)) → self.has_failed ≡ false → IsCrashed (disk_in (handed_back result).files) image d
+            → IsFoundBy (handed_back result).settings d content → content ≡ answers_on disk_in self.engine }
+        ensures crashed { (image : Image) (d : Disk) (content : Content (List ℕ)) → IsCrashed (disk_in (handed_back result).files) image d → IsFoundBy (handed_back result).settings d content
             → leaves_of_log disk_in self content }
-        ensures as_read { (content : Content (List ℕ)) → IsGenuineImage (disk_in result.files) (seen_image (disk_in result.files))
-            → IsFoundBy result.settings (disk_in result.files) content → leaves_of_log disk_in self content }
+        ensures as_read { (content : Content (List ℕ)) → IsGenuineImage (disk_in (handed_back result).files) (seen_image (disk_in (handed_back result).files))
+            → IsFoundBy (handed_back result).settings (disk_in (handed_back result).files) content → leaves_of_log disk_in self content }
+        ensures opens_in_tail { IfOk result (λ closed. OpensInTail (main_directory self.settings) (disk_in closed.files) self.engine.pipes) }
+        ensures failed { self.has_failed ≡ true → IsErrAnd result (λ refused. (refused.fault ≡ engine_fault.Stopped) × (refused.files.files ≡ self.engine.files)) }
+        ensures cause { IfErr result (λ refused. self.has_failed ≡ false → IsSyncFault self.engine (meter_in self.engine.files) (meter_in refused.files.files) refused.fault) }
     {
         if self.has_failed {
-            return self.into_files();
+            return Err(NotClosed {
+                fault: EngineFault::Stopped,
+                files: self.into_files(),
+            });
         }
-        LogFiles {
-            settings: self.settings,
-            files: files_of(self.engine.close()),
+        let settings = self.settings;
+        match self.engine.close() {
+            Ok(files) => Ok(LogFiles { settings, files }),
+            Err(refused) => Err(NotClosed {
+                fault: refused.fault,
+                files: LogFiles {
+                    settings,
+                    files: refused.files,
+                },
+            }),
         }
     }
 

@@ -1,18 +1,18 @@
 //! Opening an engine with the files that are there.
-ghost use Rattle.std.specs.Prelude.{◌≡◌, ℕ, true, List, [], Err, IfOk, IfErr, IsErrAnd, IsOk, MatchOption, OnErr, Some};
+ghost use Rattle.std.specs.Prelude.{◌≡◌, ℕ, true, false, List, [], Err, IfOk, IfErr, IsErrAnd, IsOk, MatchOption, OnErr, Some};
 ghost use Rattle.raft_log_disk.specs.Cause.{RefusesNoMore};
 ghost use Rattle.raft_log_engine.specs.Caused.{IsSyncFault};
 ghost use Rattle.raft_log_engine.specs.Closing.{handed_back};
 ghost use Rattle.raft_log_engine.specs.Left.{IsSound, answers_on};
 ghost use Rattle.raft_log_engine.specs.declared.fault.EngineFault.TheVariants.{Log, Stopped};
-ghost use Rattle.raft_log_engine.specs.Opening.{CantBeOpened, IsFoundAgain, IsFoundContent, IsLeftByOpening, IsRecoveredAs};
+ghost use Rattle.raft_log_engine.specs.Opening.{AreSetAs, CantBeOpened, HasHolesIn, IsFoundAgain, IsFoundContent, IsLeftByOpening, IsRecoveredAs};
 ghost use Rattle.raft_log_engine.specs.Reopened.{OpensAs, OpensAsFront, OpensInTail, StandAlone, StandsAlone, directories_of_engine, directories_of_pipes};
 ghost use Rattle.raft_log_engine.specs.Since.{HasWritten};
 ghost use Rattle.raft_log_file.specs.Laws.{Batch};
 ghost use Rattle.raft_log_memtables.specs.Content.{Content, nothing};
 ghost use Rattle.raft_log_pipe.specs.Alone.{IsOnce};
 ghost use Rattle.raft_log_records.specs.declared.file_id.LogQueue.{LogQueue};
-ghost use Rattle.raft_log_files.specs.Settings.{settings_fault, settings_of};
+ghost use Rattle.raft_log_files.specs.Settings.{sanitized, settings_fault, settings_of};
 ghost use Rattle.raft_log_files.specs.declared.error.CorruptionFault.{CorruptionFault};
 ghost use Rattle.raft_log_files.specs.declared.error.Error.TheVariants.{Corruption, Other};
 ghost use Rattle.raft_log_files.specs.declared.error.OtherFault.{OtherFault};
@@ -51,6 +51,7 @@ pub struct NotClosed<F> {
 fn sound_settings(mut config: Config) -> Result<Config, Error>
     ensures directories { IfOk result (λ sound. directories_of (settings_of sound) ≡ directories_of (settings_of config)) }
     ensures mode { IfOk result (λ sound. sound.recovery_mode ≡ config.recovery_mode) }
+    ensures settings { IfOk result (λ sound. settings_of sound ≡ sanitized (settings_of config)) }
     ensures refused { MatchOption (settings_fault (settings_of config)) (IsOk result) (λ f. result ≡ Err (Other f)) }
 {
     config.sanitize()?;
@@ -65,6 +66,8 @@ fn recovered<F: FileSystem>(
 ) -> Result<(DualPipes, MemTables), EngineFault>
     ensures ok { IfOk result (λ found. IsRecoveredAs config.recovery_mode (directories_of (settings_of config)) (F.disk files.old) (F.disk files.new) found.0 found.1) }
     ensures paths { IfOk result (λ found. directories_of_pipes found.0 ≡ directories_of (settings_of config)) }
+    ensures settings { IfOk result (λ found. AreSetAs (settings_of config) found.0) }
+    ensures holes { IfOk result (λ found. HasHolesIn config.recovery_mode (F.disk files.new) found.0) }
     ensures alone { IfOk result (λ found. ((queue : LogQueue) → IsOnce (F.disk files.old).names (directories_of (settings_of config)) queue) → StandAlone found.0 (F.disk files.new)) }
     ensures err { OnErr result (IsLeftByOpening config.recovery_mode (directories_of (settings_of config)) (F.disk files.old) (F.disk files.new)) }
     ensures reads { OnErr result (IsFoundAgain config.recovery_mode (directories_of (settings_of config)) (F.disk files.old) (F.disk files.new)) }
@@ -88,6 +91,8 @@ fn found_soundly<F: FileSystem>(
 ) -> Result<(DualPipes, MemTables), EngineFault>
     ensures ok { IfOk result (λ found. IsRecoveredAs config.recovery_mode (directories_of (settings_of config)) (F.disk files.old) (F.disk files.new) found.0 found.1) }
     ensures paths { IfOk result (λ found. directories_of_pipes found.0 ≡ directories_of (settings_of config)) }
+    ensures settings { IfOk result (λ found. AreSetAs (settings_of config) found.0) }
+    ensures holes { IfOk result (λ found. HasHolesIn config.recovery_mode (F.disk files.new) found.0) }
     ensures alone { IfOk result (λ found. ((queue : LogQueue) → IsOnce (F.disk files.old).names (directories_of (settings_of config)) queue) → StandAlone found.0 (F.disk files.new)) }
     ensures err { OnErr result (IsLeftByOpening config.recovery_mode (directories_of (settings_of config)) (F.disk files.old) (F.disk files.new)) }
     ensures reads { OnErr result (IsFoundAgain config.recovery_mode (directories_of (settings_of config)) (F.disk files.old) (F.disk files.new)) }
@@ -114,6 +119,8 @@ impl<F: FileSystem + Drop> Engine<F> {
         ensures answers { IfOk result (λ e. IsFoundContent config.recovery_mode (directories_of (settings_of config)) (F.disk files) (answers_on F.disk e)) }
         ensures fresh { (F.disk files).names ≡ [] → IfOk result (λ e. answers_on F.disk e ≡ nothing) }
         ensures directories { IfOk result (λ e. directories_of_engine e ≡ directories_of (settings_of config)) }
+        ensures settings { IfOk result (λ e. AreSetAs (settings_of config) e.pipes) }
+        ensures holes { IfOk result (λ e. HasHolesIn config.recovery_mode (F.disk e.files) e.pipes) }
         ensures alone { IfOk result (λ e. ((queue : LogQueue) → IsOnce (F.disk files).names (directories_of (settings_of config)) queue) → StandsAlone F.disk e) }
         ensures written { IfOk result (λ e. HasWritten F.disk e (answers_on F.disk e) []) }
         ensures opens { IfOk result (λ e. StandsAlone F.disk e → OpensAs (directories_of_engine e) (F.disk e.files) (answers_on F.disk e)) }
@@ -148,6 +155,7 @@ impl<F: FileSystem + Drop> Engine<F> {
         ensures opens_all { StandsAlone F.disk self → IfOk result (λ files. OpensAs (directories_of_engine self) (F.disk files) (answers_on F.disk self)) }
         ensures opens_front { (before : Content (List ℕ)) (batches : List Batch) → StandsAlone F.disk self → HasWritten F.disk self before batches
             → OpensAsFront (directories_of_engine self) (F.disk (handed_back result)) before batches }
+        ensures opens_in_tail { self.is_stopped ≡ false → StandsAlone F.disk self → IfOk result (λ files. OpensInTail (directories_of_engine self) (F.disk files) self.pipes) }
         ensures later { RefusesNoMore (F.is_bounded self.files) (F.is_bounded (handed_back result)) (F.meter self.files) (F.meter (handed_back result)) }
         ensures cause { IfErr result (λ refused. IsSyncFault self (F.meter self.files) (F.meter refused.files) refused.fault) }
         ensures stopped { self.is_stopped ≡ true → IsErrAnd result (λ refused. (refused.fault ≡ Stopped) × (refused.files ≡ self.files)) }

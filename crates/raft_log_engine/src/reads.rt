@@ -1,5 +1,5 @@
 //! Reads of groups, and of what an engine is over.
-ghost use Rattle.std.specs.Prelude.{◌≡◌, ◌≤◌, ◌+◌, ◌-◌, ◌^◌, ◌↔◌, ℕ, true, false, Err, IfErr, IfOk, IsTrue, OnOk, min, option_map};
+ghost use Rattle.std.specs.Prelude.{◌≡◌, ◌≤◌, ◌+◌, ◌-◌, ◌^◌, ◌↔◌, ℕ, List, true, false, Err, IfErr, IfOk, IsTrue, OnOk, min, option_map};
 ghost use Rattle.std.specs.Option.{option_map_or};
 ghost use Rattle.std.specs.List.Sorted.{IsStrictlySortedBy};
 ghost use Rattle.std.specs.Ordering.{nat_cmp, eq_by_cmp};
@@ -8,8 +8,10 @@ ghost use Rattle.raft_log_engine.specs.Caused.{IsGetFault};
 ghost use Rattle.raft_log_engine.specs.Left.{answers_on};
 ghost use Rattle.raft_log_engine.specs.Reads.{IsMessageFault, IsRead, IsStopped, IsTableFault, used_by};
 ghost use Rattle.raft_log_engine.specs.Reopened.{OpensInTail, StandsAlone, directories_of_engine};
+ghost use Rattle.raft_log_engine.specs.Since.{HasWritten};
 ghost use Rattle.raft_log_engine.specs.declared.fault.EngineFault.TheVariants.{Stopped};
-ghost use Rattle.raft_log_memtables.specs.Content.{no_group};
+ghost use Rattle.raft_log_file.specs.Laws.{Batch};
+ghost use Rattle.raft_log_memtables.specs.Content.{Content, no_group};
 ghost use Rattle.raft_log_memtables.specs.Entries.{IsFirst, IsLast};
 ghost use Rattle.raft_log_memtables.specs.MemTables.{content_in};
 ghost use Rattle.raft_log_pipe.specs.Pipe.{first_of};
@@ -30,7 +32,7 @@ impl<F: FileSystem + Drop> Engine<F> {
         ensures stopped { self.old.is_stopped ≡ true → result ≡ Err Stopped }
         ensures same { self.new ≡ record self.old { block_reads = self.new.block_reads } }
         ensures reads { IfOk result (λ found. self.new.block_reads ≤ self.old.block_reads + option_map_or (λ _. 1) found 0) }
-        ensures err { IfErr result (λ fault. IsGetFault F.disk F.meter self.old (content_in self.old.tables group) fault) }
+        ensures err { IfErr result (λ fault. IsGetFault F.disk F.meter self.old (content_in self.old.tables group) index fault) }
     {
         if self.is_stopped {
             return Err(EngineFault::Stopped);
@@ -156,6 +158,8 @@ impl<F: FileSystem + Drop> Engine<F> {
     pub fn abandon(self) -> F
         ensures files { result ≡ self.files }
         ensures opens_in_tail { self.is_stopped ≡ false → StandsAlone F.disk self → OpensInTail (directories_of_engine self) (F.disk result) self.pipes }
+        ensures tail_still { (before : Content (List ℕ)) (batches : List Batch) → StandsAlone F.disk self → HasWritten F.disk self before batches
+            → OpensInTail (directories_of_engine self) (F.disk result) self.pipes }
     {
         self.files
     }

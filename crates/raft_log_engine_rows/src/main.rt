@@ -7,6 +7,7 @@ mod damage;
 mod found;
 mod logs;
 mod messages;
+mod patient;
 mod reopening;
 mod rows;
 mod scans;

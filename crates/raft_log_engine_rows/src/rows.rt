@@ -4,6 +4,7 @@ use crate::calls::{Told, steps_on};
 use crate::damage::{Harm, harmed};
 use crate::found::{littered, many_groups, spilled, unread};
 use crate::logs::{crash, genuine, refused_openings};
+use crate::patient::keeps_told;
 use crate::reopening::{config_of, reopened, run_of};
 use crate::stops::{Plan, stops_of};
 use raft_log_engine::{Engine, EngineFault};
@@ -68,6 +69,19 @@ fn harm_row(alloc: Global, bits: Option<u8>, words: &[&str]) -> Option<Answer> {
     Some(Answer::shown(alloc, &harmed(alloc, harm)))
 }
 
+/// The plan that words say: what a stop leaves, the mode, the target size and how many batches.
+fn plan_of<'a>(words: &'a [&'a str]) -> Option<Plan<'a>> {
+    let [how, mode, target_size, count] = words else {
+        return None;
+    };
+    Some(Plan {
+        how,
+        mode,
+        target_size: number(target_size),
+        count: number(count),
+    })
+}
+
 /// The answer to a row of a log over files in memory.
 fn log_row(alloc: Global, words: &[&str]) -> Option<Answer> {
     Some(match words {
@@ -111,15 +125,8 @@ impl Rows for Calls {
             ["reopened", how, target_size, steps @ ..] => {
                 Answer::shown(alloc, &reopened(alloc, number(target_size), how, steps))
             }
-            ["stops", how, mode, target_size, count] => {
-                let plan = Plan {
-                    how,
-                    mode,
-                    target_size: number(target_size),
-                    count: number(count),
-                };
-                Answer::shown(alloc, &stops_of(alloc, plan))
-            }
+            ["stops", plan @ ..] => Answer::shown(alloc, &stops_of(alloc, plan_of(plan)?)),
+            ["patient", plan @ ..] => Answer::shown(alloc, &keeps_told(alloc, plan_of(plan)?)),
             ["run", target_size, steps @ ..] => {
                 Answer::shown(alloc, &run_of(alloc, number(target_size), steps))
             }

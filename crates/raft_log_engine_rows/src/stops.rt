@@ -56,7 +56,10 @@ pub(crate) fn told_of(engine: &mut Engine<MemoryFileSystem>, alloc: Global, coun
 }
 
 /// Whether a batch is there as it was written, and whether it isn't there at all.
-fn look(engine: &mut Engine<MemoryFileSystem>, number: u64) -> Result<(bool, bool), EngineFault> {
+pub(crate) fn look(
+    engine: &mut Engine<MemoryFileSystem>,
+    number: u64,
+) -> Result<(bool, bool), EngineFault> {
     if !engine.is_there(number)? {
         return Ok((false, true));
     }

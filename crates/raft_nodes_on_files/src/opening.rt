@@ -1,7 +1,9 @@
 //! A node is opened with its files, and gives them back.
 ghost use Rattle.std.specs.Prelude.{◌≡◌, ◌⊎◌, IfErr, IfOk, false};
 ghost use Rattle.raft_content_log.specs.Leaving.{LeavesOnly};
-ghost use Rattle.raft_log_disk.specs.MemorySystem.{disk_in};
+ghost use Rattle.raft_log_disk.specs.MemorySystem.{disk_in, meter_in};
+ghost use Rattle.raft_log_engine.specs.Caused.{IsSyncFault};
+ghost use Rattle.raft_log_engine.specs.Closing.{handed_back};
 ghost use Rattle.raft_log_engine.specs.Left.{answers_on};
 ghost use Rattle.raft_log_engine.specs.Log.{leaves_of_log};
 ghost use Rattle.raft_nodes_on_files.specs.Acts.{AreHandedBack, IsFoundAs, IsLeftOpening, IsOpened, IsRefusedOpening};
@@ -10,7 +12,7 @@ ghost use Rattle.raft_nodes_on_files.specs.Answering.{choice_in, quiet_stop, ref
 use crate::faults::{as_stop, cause_of_log, quiet_stop};
 use raft_cluster_events::{CrashChoice, CrashRefusal, Stop, StopCause};
 use raft_log_disk::{CrashChoice as FileChoice, CrashRefusal as FileRefusal};
-use raft_log_engine::{LogFiles, MemoryLog, NotOpened as LogNotOpened};
+use raft_log_engine::{LogFiles, MemoryLog, NotClosed, NotOpened as LogNotOpened};
 use raft_log_files::MemoryFileSystem;
 use raft_machines::StateMachine;
 use raft_node::{Node, NotOpened, Opened};
@@ -76,11 +78,14 @@ pub fn open_node<M: StateMachine>(
     }
 }
 
-/// The node's files, handed back once its log is closed (own: `close`): the last one is cut and synced,
-/// but where a write failed. What an opening finds of them is what the node showed of each group.
-pub fn close_node<M: StateMachine>(node: Node<M, Kept<M>>) -> LogFiles
-    ensures settings { result.settings ≡ node.groups.storage.log.settings }
-    ensures shown { AreHandedBack M.rules M.state node result }
+/// The node's files, handed back in any case, once its log is closed (own: `close`): the last one is
+/// cut and synced. A refusal is told, also where a write failed. What an opening finds of the files is
+/// what the node showed of each group.
+pub fn close_node<M: StateMachine>(node: Node<M, Kept<M>>) -> Result<LogFiles, NotClosed<LogFiles>>
+    ensures settings { (handed_back result).settings ≡ node.groups.storage.log.settings }
+    ensures shown { AreHandedBack M.rules M.state node (handed_back result) }
+    ensures cause { IfErr result (λ refused. node.groups.storage.log.has_failed ≡ false
+        → IsSyncFault node.groups.storage.log.engine (meter_in node.groups.storage.log.engine.files) (meter_in refused.files.files) refused.fault) }
 {
     node.into_storage().into_log().close()
 }

@@ -9,7 +9,7 @@ use Rattle.raft_log_engine.proofs.Appended.{appended_more, still_stands, synced_
 use Rattle.raft_log_disk.proofs.RefusalLemmas.{no_more_then, still_free}
 use Rattle.raft_log_records.specs.declared.file_id.FileBlockHandle.{FileBlockHandle}
 use Rattle.raft_log_engine.proofs.Taken.{sync_for}
-use Rattle.std.proofs.Common.{ℕ, ◌+◌}
+use Rattle.std.proofs.Common.{ℕ}
 use Rattle.raft_log_disk.specs.Cause.{Rises}
 use Rattle.raft_log_files.specs.declared.error.Error.{Error}
 use Rattle.raft_log_pipe.specs.Caused.{BeginsFiles, IsAppendFault, LacksNumber, LacksPlace}

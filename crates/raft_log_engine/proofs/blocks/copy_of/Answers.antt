@@ -1,7 +1,8 @@
-use Rattle.raft_log_engine.proofs.Caused.{cached_fault}
+-- A block that was read is kept.
+use Rattle.raft_log_engine.proofs.CacheLemmas.{then_kept}
 use Rattle.raft_log_engine.proofs.blocks.copy_of.Goals as goal
 
-pub returns-in-Some-find-clause-err : goal.returns-in-Some-find-clause-err
-returns-in-Some-find-clause-err g c =
-    cached_fault c.copy_in.result (g.F.FileSystem.disk c.args.files.now) c.args.pipes.now (g.F.FileSystem.meter c.args.files.now) c.args.place c.in-Some.handle c.in-Some-find.entries.now c.in-Some.is
-    (c.requires.read c.in-Some.handle c.in-Some-find.entries.now (c.promote.ensures.kept c.in-Some.handle c.in-Some-find.entries.now c.in-Some-find.ensures)) c.copy_in.ensures.err
+pub returns-clause-kept : goal.returns-clause-kept
+returns-clause-kept g c =
+    then_kept (g.F.FileSystem.disk c.args.files.now) c.args.pipes.now c.args.place c.args.cache.now c.count.new.self c.keep.new.self c.in-Some.handle c.in_ok-entries.entries.items c.in-Some.is c.in_ok-entries.ensures.read
+    (λ x y kept. c.promote.ensures.kept x y (c.count.ensures.kept x y kept)) c.keep.ensures.kept

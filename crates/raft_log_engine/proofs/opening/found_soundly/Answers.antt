@@ -6,12 +6,12 @@ use Rattle.raft_log_disk.specs.Text.{Text}
 use Rattle.raft_log_files.specs.declared.error.CorruptionFault.{CorruptionFault}
 use Rattle.raft_log_files.specs.declared.error.Error.TheVariants.{Corruption}
 use Rattle.raft_log_files.specs.declared.config.Config.{Config}
-use Rattle.raft_log_files.specs.Settings.{settings_fault, settings_of}
+use Rattle.raft_log_files.specs.Settings.{Settings, settings_fault, settings_of}
 use Rattle.raft_log_files.specs.declared.recovery.RecoveryMode.{RecoveryMode}
 use Rattle.raft_log_pipe.specs.Alone.{IsOnce}
 use Rattle.raft_log_records.specs.declared.file_id.LogQueue.{LogQueue}
 use Rattle.raft_log_engine.specs.declared.fault.EngineFault.TheVariants.{Log}
-use Rattle.raft_log_engine.specs.Opening.{CantBeOpened, IsFoundAgain, IsLeftByOpening, IsRecoveredAs}
+use Rattle.raft_log_engine.specs.Opening.{AreSetAs, CantBeOpened, HasHolesIn, IsFoundAgain, IsLeftByOpening, IsRecoveredAs}
 use Rattle.raft_log_engine.specs.Reopened.{StandAlone, directories_of_pipes}
 use Rattle.raft_log_recovery.proofs.DirectoryLemmas.{makes_none}
 use Rattle.raft_log_recovery.specs.Scan.{directories_of}
@@ -75,3 +75,10 @@ pub returns-clause-corrupt : goal.returns-clause-corrupt
 returns-clause-corrupt g c =
     let d = g.F.FileSystem.disk c.args.files.now in
     along (λ m l. (f : CorruptionFault) → c.recovered.result ≡ Err (Log (Corruption f)) → (queue : LogQueue) × CantBeOpened m l queue d) c.in_ok-sound.ensures.mode c.in_ok-sound.ensures.directories c.recovered.ensures.corrupt
+
+pub returns-clause-settings : goal.returns-clause-settings
+returns-clause-settings g c = subst (λ (s : Settings). IfOk c.recovered.result (λ found. AreSetAs s found.0)) c.in_ok-sound.ensures.settings c.recovered.ensures.settings
+
+pub returns-clause-holes : goal.returns-clause-holes
+returns-clause-holes g c =
+    subst (λ (m : RecoveryMode). IfOk c.recovered.result (λ found. HasHolesIn m (g.F.FileSystem.disk c.recovered.new.files) found.0)) c.in_ok-sound.ensures.mode c.recovered.ensures.holes

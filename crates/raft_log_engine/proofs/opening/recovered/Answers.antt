@@ -19,7 +19,12 @@ use Rattle.raft_log_records.specs.declared.file_id.LogQueue.{LogQueue}
 use Rattle.raft_log_recovery.specs.Scan.{IsScanFault}
 use Rattle.raft_log_engine.specs.Opening.{CantBeOpened}
 use Rattle.raft_log_engine.proofs.Corrupt.{cant_open, passed_on, scan_sound}
+use Rattle.raft_log_disk.specs.declared.format.LogFileFormat.{LogFileFormat}
 use Rattle.raft_log_engine.proofs.opening.recovered.Goals as goal
+
+-- the format of new files
+abbrev plain_format : Config → LogFileFormat
+plain_format k = record { version = k.format_version; alignment = 0 }
 
 pub returns-in_err-scan-clause-err : goal.returns-in_err-scan-clause-err
 returns-in_err-scan-clause-err g c =
@@ -121,3 +126,18 @@ returns-in_err-pipes-clause-corrupt g c =
     passed_on (λ (f : CorruptionFault). (queue : LogQueue) × CantBeOpened c.args.config.recovery_mode said queue d) c.in_err-pipes.field-0.0 c.from_residual-in_err-pipes.result c.from_residual-in_err-pipes.ensures.1
     (λ f same. let cant = c.in_err-pipes.ensures.corrupt f (λ i. Err (same i)) in
     (cant.0, cant_open b c.args.config.recovery_mode said at alike d made makes append rewrite cant.0 cant.1))
+
+-- ---- as the settings say
+
+pub returns-clause-settings : goal.returns-clause-settings
+returns-clause-settings g c =
+    let same = c.in_ok-scan.ensures.config ∙ c.new-builder.ensures.config in
+    let opened = c.in_ok-pipes.ensures.opened in (
+      (opened.append.settings.0 ∙ ap (λ (k : Config). k.target_file_size.0) same, opened.append.settings.1 ∙ ap plain_format same),
+      (opened.rewrite.settings.0 ∙ ap (λ (k : Config). k.target_file_size.0) same, opened.rewrite.settings.1 ∙ ap plain_format same),
+    )
+
+pub returns-clause-holes : goal.returns-clause-holes
+returns-clause-holes g c =
+    let same = c.in_ok-scan.ensures.config ∙ c.new-builder.ensures.config in
+    λ queue hole. sym (ap (λ (k : Config). k.recovery_mode) same) ∙ (c.in_ok-pipes.ensures.holes queue hole).0

@@ -6,6 +6,7 @@ use Rattle.raft_log_engine.proofs.Clauses.{kept_by, parts}
 use Rattle.raft_log_engine.proofs.Reopened.{all_closed, both_closed, closed_opens, first_closed}
 use Rattle.raft_log_engine.proofs.Since.{closed_front, written_opens}
 use Rattle.raft_log_engine.proofs.Tables.{answered, held_answered}
+use Rattle.raft_log_engine.proofs.Tails.{closed_in_tail}
 use Rattle.raft_log_disk.specs.Cause.{Rises}
 use Rattle.raft_log_pipe.proofs.CausedLemmas.{caused_for, rises_then}
 use Rattle.raft_log_engine.proofs.engine.Engine.close.Goals as goal
@@ -131,3 +132,16 @@ returns-clause-opens_all g c =
     closed_opens p t f held.rewrites (held.synced ++ held.unsynced) (answers_on (g.F.FileSystem.disk) old) (met.is_named c.close-2.new.files)
     (all_closed p q t d e f _ c.close-2.result c.in_default.ensures.call c.in_default.ensures.other c.close-2.ensures.call c.close-2.ensures.other alone held.rewrites held.synced held.unsynced held.held.rewrite held.held.append)
     (held_answered d p c.self.inside.tables held.rewrites held.synced held.unsynced held.held))
+
+-- ---- what an opening that tolerates a torn tail refuses then
+
+pub returns-clause-opens_in_tail : goal.returns-clause-opens_in_tail
+returns-clause-opens_in_tail g c =
+    let met = g.met.F.FileSystem g.world.𝓛 g.world.𝓜 g.world.𝓡 ((λ s x. x), (λ x. x), (λ x. x), λ x. x) in
+    let held = (c.self.invariant c.if-self.false).batches in
+    let d = g.F.FileSystem.disk c.self.inside.files in
+    let e = g.F.FileSystem.disk c.close.new.files in
+    let f = g.F.FileSystem.disk c.close-2.new.files in
+    rw (← c.self.view_is) (λ going alone.
+    closed_in_tail c.self.inside.pipes c.close.new.self c.close-2.new.self d e f _ _ c.in_default.ensures.call c.in_default.ensures.other c.in_default-close.ensures.call c.in_default-close.ensures.other alone
+    held.rewrites held.synced held.unsynced held.held.rewrite held.held.append (met.is_named c.close-2.new.files))

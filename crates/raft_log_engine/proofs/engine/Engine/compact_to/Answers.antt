@@ -1,4 +1,5 @@
 use Rattle.std.proofs.Common.{ℕ, [], ◌∷◌, ◌++◌, refl, sym, subst, ◌∙◌}
+use Rattle.std.proofs.lemmas.Bool.{false≢true}
 use Rattle.raft_log_disk.proofs.CauseLemmas.{at_err}
 use Rattle.raft_log_memtables.specs.MemTables.{content_in}
 use Rattle.raft_log_engine.specs.Held.{bytes_on}
@@ -11,6 +12,7 @@ use Rattle.raft_log_engine.specs.Since.{HasWritten, written_batch}
 use Rattle.raft_log_engine.proofs.Clauses.{kept_by, parts, refused}
 use Rattle.raft_log_engine.proofs.Reopened.{refused_opens}
 use Rattle.raft_log_engine.proofs.Seen.{count_seen}
+use Rattle.raft_log_engine.proofs.Tails.{stands_in_tail}
 use Rattle.raft_log_engine.proofs.Since.{refused_front}
 use Rattle.raft_log_engine.proofs.Taken.{compaction_taken, compaction_unmade}
 use Rattle.raft_log_engine.proofs.Caused.{compaction_cause, compaction_memory_cause}
@@ -106,3 +108,19 @@ returns-in_err-write-clause-cause g c =
     let b = g.F.FileSystem.meter c.write.new.self.files in
     told_cause c.from_residual-in_err-write.result c.in_err-write.field-0.0 (λ (x : EngineFault). IsCompactionFault (g.F.FileSystem.disk) c.args.self.now a b x) c.from_residual-in_err-write.ensures.1
     (compaction_cause (g.F.FileSystem.disk) c.args.self.now c.in_ok-batch.batch.items a b c.args.group c.args.index c.in_ok-batch.ensures.items c.in_err-write.field-0.0 c.in_err-write.ensures.cause)
+
+-- ---- where it goes on
+
+pub returns-then-self-clause-goes_on_in_tail : goal.returns-then-self-clause-goes_on_in_tail
+returns-then-self-clause-goes_on_in_tail g c = rw (← c.self.view_is) (λ alone going. absurd (false≢true (sym going ∙ c.if-self.true)))
+
+pub returns-in_err-batch-clause-goes_on_in_tail : goal.returns-in_err-batch-clause-goes_on_in_tail
+returns-in_err-batch-clause-goes_on_in_tail g c =
+    let met = g.met.F.FileSystem g.world.𝓛 g.world.𝓜 g.world.𝓡 ((λ s x. x), (λ x. x), (λ x. x), λ x. x) in
+    rw (← c.self.view_is) (λ alone going. stands_in_tail (g.F.FileSystem.disk) (parts c.self.inside.files c.self.inside.pipes c.self.inside.tables c.self.inside.is_stopped c.self.inside.wrote_unsynced c.self.inside.blocks.reads) (met.is_named c.self.inside.files) alone (c.self.invariant c.if-self.false).batches)
+
+pub returns-in_err-write-clause-goes_on_in_tail : goal.returns-in_err-write-clause-goes_on_in_tail
+returns-in_err-write-clause-goes_on_in_tail g c = c.in_err-write.ensures.goes_on_in_tail
+
+pub returns-clause-goes_on_in_tail : goal.returns-clause-goes_on_in_tail
+returns-clause-goes_on_in_tail g c = c.in_ok-write.ensures.goes_on_in_tail

@@ -6,6 +6,7 @@ use Rattle.raft_log_engine.proofs.Fetched.{copied, copied_count, fetched_there, 
 use Rattle.raft_log_engine.proofs.Settled.{blocks_more, blocks_read}
 use Rattle.raft_log_engine.proofs.Tables.{measured}
 use Rattle.raft_log_engine.proofs.Clauses.{parts}
+use Rattle.raft_log_engine.proofs.Whole.{has_block}
 use Rattle.raft_log_engine.proofs.Caused.{copies_fault, range_fault}
 use Rattle.raft_log_engine.proofs.engine.Engine.fetch_entries_to.Goals as goal
 
@@ -13,14 +14,20 @@ pub copies_of-requires-clause-read : goal.copies_of-requires-clause-read
 copies_of-requires-clause-read g c κs within =
     blocks_read (g.F.FileSystem.disk c.self.inside.files) c.self.inside.pipes c.self.inside.tables c.self.inside.wrote_unsynced c.self.inside.blocks (c.self.invariant c.if-self.false)
 
+pub copies_of-requires-clause-blocks : goal.copies_of-requires-clause-blocks
+copies_of-requires-clause-blocks g c κs within = λ e among.
+    let held = (c.self.invariant c.if-self.false).batches in
+    let at = fetched_there (content_in c.self.inside.tables c.args.group) c.args.begin c.args.end c.args.max_size c.in-Ok.places.items c.in-Ok.ensures.some c.in-Ok.ensures.none c.in-Ok.ensures.unknown e
+    (subst (λ l. Contains l e) c.deref.ensures.value among) in
+    has_block (g.F.FileSystem.disk c.self.inside.files) c.self.inside.pipes c.self.inside.tables held.rewrites held.synced held.unsynced held.held c.args.group at.0 e at.3
+
 pub invariant_of-self : goal.invariant_of-self
 invariant_of-self g c =
     λ goes_on. blocks_more (g.F.FileSystem.disk c.self.inside.files) c.self.inside.pipes c.self.inside.tables c.self.inside.wrote_unsynced c.self.inside.blocks (c.self.invariant c.if-self.false) c.copies_of.new.cache (Contains c.deref.result.now)
-    (λ e among. (
-      c.args.group,
-      fetched_there (content_in c.self.inside.tables c.args.group) c.args.begin c.args.end c.args.max_size c.in-Ok.places.items c.in-Ok.ensures.some c.in-Ok.ensures.none c.in-Ok.ensures.unknown e
-          (subst (λ l. Contains l e) c.deref.ensures.value among),
-    ))
+    (λ e among.
+    let at = fetched_there (content_in c.self.inside.tables c.args.group) c.args.begin c.args.end c.args.max_size c.in-Ok.places.items c.in-Ok.ensures.some c.in-Ok.ensures.none c.in-Ok.ensures.unknown e
+    (subst (λ l. Contains l e) c.deref.ensures.value among) in
+    (c.args.group, (at.0, at.3)))
     c.copies_of.ensures.kept
 
 pub returns-clause-found : goal.returns-clause-found

@@ -1,14 +1,16 @@
 -- After a sync all batches are on the disk; a refused one leaves them.
 use Rattle.std.proofs.Common.{true, [], ◌++◌, refl, sym, ◌∙◌}
+use Rattle.std.proofs.lemmas.Bool.{false≢true}
+use Rattle.raft_log_engine.proofs.Synced.{IsStill, all_synced, still_left, still_opened}
 use Rattle.std.proofs.lemmas.List.{append-nil}
 use Rattle.raft_log_pipe.proofs.BlockLemmas.{same_files}
 use Rattle.raft_log_engine.specs.Left.{answers_on}
-use Rattle.raft_log_engine.proofs.Clauses.{kept_by, parts}
-use Rattle.raft_log_engine.proofs.Reopened.{kept_opens, still_opens, synced_stands}
+use Rattle.raft_log_engine.proofs.Clauses.{parts}
+use Rattle.raft_log_engine.proofs.Reopened.{kept_opens, synced_stands}
 use Rattle.raft_log_engine.proofs.Settled.{settled_still}
 use Rattle.raft_log_engine.proofs.Since.{nothing_since, synced_written, unsynced_written, written_opens}
 use Rattle.raft_log_engine.proofs.Tables.{answered, held_answered, kept_held, synced_kept}
-use Rattle.raft_log_engine.proofs.Tails.{held_in_tail}
+use Rattle.raft_log_engine.proofs.Tails.{held_in_tail, written_in_tail}
 use Rattle.raft_log_engine.proofs.Taken.{failed_sync}
 use Rattle.raft_log_engine.proofs.engine.Engine.sync.Goals as goal
 
@@ -16,23 +18,6 @@ pub returns-then-self-clause-opens_front : goal.returns-then-self-clause-opens_f
 returns-then-self-clause-opens_front g c =
     let met = g.met.F.FileSystem g.world.𝓛 g.world.𝓜 g.world.𝓡 ((λ s x. x), (λ x. x), (λ x. x), λ x. x) in
     rw (← c.self.view_is) (λ before batches alone w. written_opens (g.F.FileSystem.disk) (parts c.self.inside.files c.self.inside.pipes c.self.inside.tables c.self.inside.is_stopped c.self.inside.wrote_unsynced c.self.inside.blocks.reads) before batches (met.is_named c.self.inside.files) alone w)
-
-pub returns-then-not-self-clause-opens : goal.returns-then-not-self-clause-opens
-returns-then-not-self-clause-opens g c =
-    let met = g.met.F.FileSystem g.world.𝓛 g.world.𝓜 g.world.𝓡 ((λ s x. x), (λ x. x), (λ x. x), λ x. x) in
-    let old = (parts c.self.inside.files c.self.inside.pipes c.self.inside.tables c.self.inside.is_stopped c.self.inside.wrote_unsynced c.self.inside.blocks.reads) in
-    rw (← c.self.view_is) (λ alone. still_opens (g.F.FileSystem.disk) old alone (kept_by (g.F.FileSystem.disk) old (c.self.invariant c.if-self.false).batches c.if-not-self.true) (met.is_named c.self.inside.files))
-
-pub returns-then-not-self-clause-opens_front : goal.returns-then-not-self-clause-opens_front
-returns-then-not-self-clause-opens_front g c =
-    let met = g.met.F.FileSystem g.world.𝓛 g.world.𝓜 g.world.𝓡 ((λ s x. x), (λ x. x), (λ x. x), λ x. x) in
-    rw (← c.self.view_is) (λ before batches alone w. written_opens (g.F.FileSystem.disk) (parts c.self.inside.files c.self.inside.pipes c.self.inside.tables c.self.inside.is_stopped c.self.inside.wrote_unsynced c.self.inside.blocks.reads) before batches (met.is_named c.self.inside.files) alone w)
-
-pub returns-then-not-self-clause-all_written : goal.returns-then-not-self-clause-all_written
-returns-then-not-self-clause-all_written g c =
-    let old = (parts c.self.inside.files c.self.inside.pipes c.self.inside.tables c.self.inside.is_stopped c.self.inside.wrote_unsynced c.self.inside.blocks.reads) in
-    let kept = kept_by (g.F.FileSystem.disk) old (c.self.invariant c.if-self.false).batches c.if-not-self.true in
-    rw (← c.self.view_is) (nothing_since (g.F.FileSystem.disk) old kept.0 kept.1 kept.2.rewrite kept.2.append (answers_on (g.F.FileSystem.disk) old) (answered (g.F.FileSystem.disk c.self.inside.files) c.self.inside.pipes c.self.inside.tables kept.0 kept.1 kept.2))
 
 pub returns-in-Err-clause-written : goal.returns-in-Err-clause-written
 returns-in-Err-clause-written g c =
@@ -74,6 +59,17 @@ returns-clause-answers g c =
     let e = g.F.FileSystem.disk c.sync.new.files in
     let kept = synced_kept d e c.self.inside.pipes c.sync.new.self c.self.inside.tables held.rewrites held.synced held.unsynced held.held (c.in_default.ensures.both held.held.pipes) c.in_default.ensures.call.same c.in_default.ensures.other c.in_default.ensures.call.ok in
     rw (← c.self.view_is) (answered e c.sync.new.self c.self.inside.tables held.rewrites (held.synced ++ held.unsynced) kept ∙ sym (held_answered d c.self.inside.pipes c.self.inside.tables held.rewrites held.synced held.unsynced held.held))
+
+pub returns-clause-kept : goal.returns-clause-kept
+returns-clause-kept g c =
+    let held = (c.self.invariant c.if-self.false).batches in
+    let d = g.F.FileSystem.disk c.self.inside.files in
+    let e = g.F.FileSystem.disk c.sync.new.files in
+    let kept = synced_kept d e c.self.inside.pipes c.sync.new.self c.self.inside.tables held.rewrites held.synced held.unsynced held.held (c.in_default.ensures.both held.held.pipes) c.in_default.ensures.call.same c.in_default.ensures.other c.in_default.ensures.call.ok in
+    rw (← c.self.view_is) (λ sound. (
+      record { goes_on = c.if-self.false; synced = sound.synced },
+      answered e c.sync.new.self c.self.inside.tables held.rewrites (held.synced ++ held.unsynced) kept ∙ sym (held_answered d c.self.inside.pipes c.self.inside.tables held.rewrites held.synced held.unsynced held.held),
+    ))
 
 pub returns-clause-opens : goal.returns-clause-opens
 returns-clause-opens g c =
@@ -131,12 +127,6 @@ returns-clause-alone g c =
 
 -- ---- what an opening that tolerates a torn tail refuses
 
-pub returns-then-not-self-clause-opens_in_tail : goal.returns-then-not-self-clause-opens_in_tail
-returns-then-not-self-clause-opens_in_tail g c =
-    let met = g.met.F.FileSystem g.world.𝓛 g.world.𝓜 g.world.𝓡 ((λ s x. x), (λ x. x), (λ x. x), λ x. x) in
-    let held = (c.self.invariant c.if-self.false).batches in
-    rw (← c.self.view_is) (λ alone. held_in_tail (g.F.FileSystem.disk c.self.inside.files) c.self.inside.pipes held.rewrites held.synced held.unsynced (met.is_named c.self.inside.files) alone held.held.rewrite held.held.append)
-
 pub returns-clause-opens_in_tail : goal.returns-clause-opens_in_tail
 returns-clause-opens_in_tail g c =
     let met = g.met.F.FileSystem g.world.𝓛 g.world.𝓜 g.world.𝓡 ((λ s x. x), (λ x. x), (λ x. x), λ x. x) in
@@ -151,3 +141,100 @@ returns-clause-opens_in_tail g c =
 
 pub returns-in-Err-clause-cause : goal.returns-in-Err-clause-cause
 returns-in-Err-clause-cause g c = rw (← c.self.view_is) c.in-Err.ensures.cause
+
+-- ---- what is on the disk stays there
+
+pub returns-in-Err-clause-left : goal.returns-in-Err-clause-left
+returns-in-Err-clause-left g c =
+    let old = (parts c.self.inside.files c.self.inside.pipes c.self.inside.tables c.self.inside.is_stopped c.self.inside.wrote_unsynced c.self.inside.blocks.reads) in
+    let still : IsStill (g.F.FileSystem.disk c.self.inside.files) c.self.inside.pipes (g.F.FileSystem.disk c.sync.new.files) c.sync.new.self = record {
+      pipes = c.in-Err.ensures.both;
+      same = c.in-Err.ensures.call.same;
+      paths = c.in-Err.ensures.call.paths;
+      names = c.in-Err.ensures.call.names;
+      other = c.in-Err.ensures.other;
+      holds = λ bs holds. c.in-Err.ensures.call.err bs [] holds;
+    } in
+    rw (← c.self.view_is) (still_left (g.F.FileSystem.disk) old (c.self.invariant c.if-self.false).batches c.sync.new.files c.sync.new.self still c.if-self.false true)
+
+pub returns-in-Err-clause-opens_still : goal.returns-in-Err-clause-opens_still
+returns-in-Err-clause-opens_still g c =
+    let met = g.met.F.FileSystem g.world.𝓛 g.world.𝓜 g.world.𝓡 ((λ s x. x), (λ x. x), (λ x. x), λ x. x) in
+    let old = (parts c.self.inside.files c.self.inside.pipes c.self.inside.tables c.self.inside.is_stopped c.self.inside.wrote_unsynced c.self.inside.blocks.reads) in
+    let still : IsStill (g.F.FileSystem.disk c.self.inside.files) c.self.inside.pipes (g.F.FileSystem.disk c.sync.new.files) c.sync.new.self = record {
+      pipes = c.in-Err.ensures.both;
+      same = c.in-Err.ensures.call.same;
+      paths = c.in-Err.ensures.call.paths;
+      names = c.in-Err.ensures.call.names;
+      other = c.in-Err.ensures.other;
+      holds = λ bs holds. c.in-Err.ensures.call.err bs [] holds;
+    } in
+    rw (← c.self.view_is) (λ sound alone. still_opened (g.F.FileSystem.disk) old (c.self.invariant c.if-self.false).batches c.sync.new.files c.sync.new.self still sound alone (met.is_named c.sync.new.files))
+
+pub returns-clause-left : goal.returns-clause-left
+returns-clause-left g c =
+    let old = (parts c.self.inside.files c.self.inside.pipes c.self.inside.tables c.self.inside.is_stopped c.self.inside.wrote_unsynced c.self.inside.blocks.reads) in
+    let still : IsStill (g.F.FileSystem.disk c.self.inside.files) c.self.inside.pipes (g.F.FileSystem.disk c.sync.new.files) c.sync.new.self = record {
+      pipes = c.in_default.ensures.both;
+      same = c.in_default.ensures.call.same;
+      paths = c.in_default.ensures.call.paths;
+      names = c.in_default.ensures.call.names;
+      other = c.in_default.ensures.other;
+      holds = all_synced c.self.inside.pipes.append c.sync.new.self.append (g.F.FileSystem.disk c.self.inside.files) (g.F.FileSystem.disk c.sync.new.files) c.in_default.ensures.call.ok;
+    } in
+    rw (← c.self.view_is) (still_left (g.F.FileSystem.disk) old (c.self.invariant c.if-self.false).batches c.sync.new.files c.sync.new.self still c.if-self.false c.self.inside.is_stopped)
+
+pub returns-clause-opens_still : goal.returns-clause-opens_still
+returns-clause-opens_still g c =
+    let met = g.met.F.FileSystem g.world.𝓛 g.world.𝓜 g.world.𝓡 ((λ s x. x), (λ x. x), (λ x. x), λ x. x) in
+    let old = (parts c.self.inside.files c.self.inside.pipes c.self.inside.tables c.self.inside.is_stopped c.self.inside.wrote_unsynced c.self.inside.blocks.reads) in
+    let still : IsStill (g.F.FileSystem.disk c.self.inside.files) c.self.inside.pipes (g.F.FileSystem.disk c.sync.new.files) c.sync.new.self = record {
+      pipes = c.in_default.ensures.both;
+      same = c.in_default.ensures.call.same;
+      paths = c.in_default.ensures.call.paths;
+      names = c.in_default.ensures.call.names;
+      other = c.in_default.ensures.other;
+      holds = all_synced c.self.inside.pipes.append c.sync.new.self.append (g.F.FileSystem.disk c.self.inside.files) (g.F.FileSystem.disk c.sync.new.files) c.in_default.ensures.call.ok;
+    } in
+    rw (← c.self.view_is) (λ sound alone. still_opened (g.F.FileSystem.disk) old (c.self.invariant c.if-self.false).batches c.sync.new.files c.sync.new.self still sound alone (met.is_named c.sync.new.files))
+
+-- ---- where it goes on, or its batches stand there
+
+pub returns-then-self-clause-goes_on_in_tail : goal.returns-then-self-clause-goes_on_in_tail
+returns-then-self-clause-goes_on_in_tail g c = rw (← c.self.view_is) (λ alone going. absurd (false≢true (sym going ∙ c.if-self.true)))
+
+pub returns-in-Err-clause-goes_on_in_tail : goal.returns-in-Err-clause-goes_on_in_tail
+returns-in-Err-clause-goes_on_in_tail g c = λ alone going. absurd (false≢true (sym going))
+
+pub returns-clause-goes_on_in_tail : goal.returns-clause-goes_on_in_tail
+returns-clause-goes_on_in_tail g c =
+    let met = g.met.F.FileSystem g.world.𝓛 g.world.𝓜 g.world.𝓡 ((λ s x. x), (λ x. x), (λ x. x), λ x. x) in
+    let held = (c.self.invariant c.if-self.false).batches in
+    rw (← c.self.view_is) (λ alone going.
+    let stand = synced_stands c.self.inside.pipes c.sync.new.self (g.F.FileSystem.disk c.self.inside.files) (g.F.FileSystem.disk c.sync.new.files) c.in_default.ensures.call.same c.in_default.ensures.call.paths c.in_default.ensures.call.names c.in_default.ensures.other alone in
+    record {
+      alone = stand;
+      opens = held_in_tail (g.F.FileSystem.disk c.sync.new.files) c.sync.new.self held.rewrites (held.synced ++ held.unsynced) [] (met.is_named c.sync.new.files) stand (c.in_default.ensures.other.holds held.rewrites [] held.held.rewrite)
+          (c.in_default.ensures.call.ok held.synced held.unsynced held.held.append);
+    })
+
+pub returns-then-self-clause-tail_still : goal.returns-then-self-clause-tail_still
+returns-then-self-clause-tail_still g c =
+    let met = g.met.F.FileSystem g.world.𝓛 g.world.𝓜 g.world.𝓡 ((λ s x. x), (λ x. x), (λ x. x), λ x. x) in
+    rw (← c.self.view_is) (λ before batches alone w. written_in_tail (g.F.FileSystem.disk) (parts c.self.inside.files c.self.inside.pipes c.self.inside.tables c.self.inside.is_stopped c.self.inside.wrote_unsynced c.self.inside.blocks.reads) (met.is_named c.self.inside.files) alone before batches w)
+
+pub returns-in-Err-clause-tail_still : goal.returns-in-Err-clause-tail_still
+returns-in-Err-clause-tail_still g c =
+    let met = g.met.F.FileSystem g.world.𝓛 g.world.𝓜 g.world.𝓡 ((λ s x. x), (λ x. x), (λ x. x), λ x. x) in
+    rw (← c.self.view_is) (λ before batches alone w.
+    held_in_tail (g.F.FileSystem.disk c.sync.new.files) c.sync.new.self w.rewrites w.synced w.unsynced (met.is_named c.sync.new.files)
+    (synced_stands c.self.inside.pipes c.sync.new.self (g.F.FileSystem.disk c.self.inside.files) (g.F.FileSystem.disk c.sync.new.files) c.in-Err.ensures.call.same c.in-Err.ensures.call.paths c.in-Err.ensures.call.names c.in-Err.ensures.other alone)
+    (c.in-Err.ensures.other.holds w.rewrites [] w.rewrite) (c.in-Err.ensures.call.err w.synced w.unsynced w.append))
+
+pub returns-clause-tail_still : goal.returns-clause-tail_still
+returns-clause-tail_still g c =
+    let met = g.met.F.FileSystem g.world.𝓛 g.world.𝓜 g.world.𝓡 ((λ s x. x), (λ x. x), (λ x. x), λ x. x) in
+    rw (← c.self.view_is) (λ before batches alone w.
+    held_in_tail (g.F.FileSystem.disk c.sync.new.files) c.sync.new.self w.rewrites (w.synced ++ w.unsynced) [] (met.is_named c.sync.new.files)
+    (synced_stands c.self.inside.pipes c.sync.new.self (g.F.FileSystem.disk c.self.inside.files) (g.F.FileSystem.disk c.sync.new.files) c.in_default.ensures.call.same c.in_default.ensures.call.paths c.in_default.ensures.call.names c.in_default.ensures.other alone)
+    (c.in_default.ensures.other.holds w.rewrites [] w.rewrite) (c.in_default.ensures.call.ok w.synced w.unsynced w.append))

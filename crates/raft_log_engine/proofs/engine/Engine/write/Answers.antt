@@ -1,5 +1,5 @@
 -- What a write leaves, exit by exit.
-use Rattle.std.proofs.Common.{◌≡◌, ℕ, true, false, sym, ap, subst, ◌∙◌, inr}
+use Rattle.std.proofs.Common.{◌≡◌, ℕ, false, sym, ap, subst, ◌∙◌, inr}
 use Rattle.std.proofs.lemmas.Bool.{false≢true}
 use Rattle.std.specs.List.{list_any}
 use Rattle.raft_log_records.specs.Item.{with_lengths}
@@ -8,17 +8,16 @@ use Rattle.raft_log_disk.proofs.CauseLemmas.{at_err}
 use Rattle.raft_log_pipe.proofs.AloneLemmas.{nearly}
 use Rattle.raft_log_recovery.proofs.LengthLemmas.{placed_lengths}
 use Rattle.raft_log_memtables.specs.Content.{after_batch}
-use Rattle.raft_content_log.specs.Leaving.{IsWritten}
 use Rattle.raft_log_engine.specs.Held.{seen_on}
-use Rattle.raft_log_engine.specs.Left.{answers_on, leaves_on}
+use Rattle.raft_log_engine.specs.Left.{answers_on}
 use Rattle.raft_log_engine.specs.Since.{HasWritten}
-use Rattle.raft_log_engine.proofs.Clauses.{HeldBy, agrees, done_blocks, done_from, done_kept, done_seen, done_written, empty_written, failed, kept_by, others, parts, put_leaves, refused}
+use Rattle.raft_log_engine.proofs.Clauses.{HeldBy, agrees, done_blocks, done_from, done_kept, done_seen, done_written, failed, kept_by, others, parts, put_leaves, refused}
 use Rattle.raft_log_engine.proofs.Reopened.{done_opens, failed_opens, refused_opens, stand_on}
 use Rattle.raft_log_engine.proofs.Since.{failed_front, more_opens, more_written, no_batch, nothing_since, one_batch, refused_front, written_opens}
 use Rattle.raft_log_engine.specs.Reopened.{directories_of_engine}
-use Rattle.raft_log_engine.proofs.Synced.{synced_opens, synced_others, synced_refused, synced_written}
+use Rattle.raft_log_engine.proofs.Synced.{either_opens, synced_agrees, synced_others, synced_refused, synced_written}
 use Rattle.raft_log_engine.proofs.Tables.{answered}
-use Rattle.raft_log_engine.proofs.Tails.{held_in_tail, more_in_tail}
+use Rattle.raft_log_engine.proofs.Tails.{held_in_tail, more_in_tail, stands_in_tail}
 use Rattle.raft_log_engine.proofs.Taken.{block_fits, done_write, failed_write, refused_write, stopped_write, synced_write, unapplied_write}
 use Rattle.raft_log_engine.proofs.Caused.{failed_cause, refused_cause, stopped_cause, synced_cause, unapplied_cause}
 use Rattle.raft_log_engine.specs.Caused.{IsWriteFault}
@@ -202,7 +201,13 @@ returns-clause-others_answered g c =
 pub returns-then-sync-clause-ok : goal.returns-then-sync-clause-ok
 returns-then-sync-clause-ok g c =
     let held = subst (λ n. HeldBy (g.F.FileSystem.disk) n) c.self.view_is (c.self.invariant c.if-self.false).batches in
-    λ sound synced. synced_written (g.F.FileSystem.disk) c.args.self.now c.sync.new.self c.args.batch.now.items c.in_ok-sync.ensures.sound held (c.is_empty.ensures.0 c.if-is_empty.true) sound
+    λ sound synced. synced_written (g.F.FileSystem.disk) c.args.self.now c.sync.new.self c.args.batch.now.items c.in_ok-sync.ensures.left held (c.is_empty.ensures.0 c.if-is_empty.true) c.in_ok-sync.ensures.answers sound
+
+pub returns-then-sync-clause-others_answered : goal.returns-then-sync-clause-others_answered
+returns-then-sync-clause-others_answered g c = synced_agrees (g.F.FileSystem.disk) c.args.self.now c.sync.new.self c.args.batch.now.items c.in_ok-sync.ensures.left c.in_ok-sync.ensures.kept
+
+pub returns-in_err-sync-clause-others_answered : goal.returns-in_err-sync-clause-others_answered
+returns-in_err-sync-clause-others_answered g c = synced_agrees (g.F.FileSystem.disk) c.args.self.now c.sync.new.self c.args.batch.now.items c.in_err-sync.ensures.left c.in_err-sync.ensures.kept
 
 pub returns-then-sync-clause-opens : goal.returns-then-sync-clause-opens
 returns-then-sync-clause-opens g c = λ alone synced. c.in_ok-sync.ensures.opens alone
@@ -214,13 +219,11 @@ returns-then-sync-clause-written g c =
 pub returns-in_err-sync-clause-err : goal.returns-in_err-sync-clause-err
 returns-in_err-sync-clause-err g c =
     let held = subst (λ n. HeldBy (g.F.FileSystem.disk) n) c.self.view_is (c.self.invariant c.if-self.false).batches in
-    λ sound. at_err _ _ (synced_refused (g.F.FileSystem.disk) c.args.self.now c.sync.new.self c.args.batch.now.items c.in_err-sync.ensures.sound held sound)
+    λ sound. at_err _ _ (synced_refused (g.F.FileSystem.disk) c.args.self.now c.sync.new.self c.args.batch.now.items c.in_err-sync.ensures.left held c.in_err-sync.ensures.kept sound)
 
 pub returns-in_err-sync-clause-opens_either : goal.returns-in_err-sync-clause-opens_either
 returns-in_err-sync-clause-opens_either g c =
-    let met = g.met.F.FileSystem g.world.𝓛 g.world.𝓜 g.world.𝓡 ((λ s x. x), (λ x. x), (λ x. x), λ x. x) in
-    let held = subst (λ n. HeldBy (g.F.FileSystem.disk) n) c.self.view_is (c.self.invariant c.if-self.false).batches in
-    λ sound alone. at_err _ _ (synced_opens (g.F.FileSystem.disk) c.args.self.now c.sync.new.self c.args.batch.now.items c.in_err-sync.ensures.sound held sound alone (met.is_named c.args.self.now.files))
+    λ sound alone. at_err _ _ (either_opens (g.F.FileSystem.disk) c.args.self.now c.sync.new.self (after_batch c.args.batch.now.items (answers_on (g.F.FileSystem.disk) c.args.self.now)) (c.in_err-sync.ensures.opens_still sound alone))
 
 pub returns-then-sync-clause-opens_front : goal.returns-then-sync-clause-opens_front
 returns-then-sync-clause-opens_front g c =
@@ -231,14 +234,10 @@ returns-in_err-sync-clause-opens_front g c =
     λ before batches alone w. more_opens (directories_of_engine c.sync.new.self) (g.F.FileSystem.disk c.sync.new.self.files) before batches _ (c.in_err-sync.ensures.opens_front before batches alone w)
 
 pub returns-then-sync-clause-others : goal.returns-then-sync-clause-others
-returns-then-sync-clause-others g c =
-    let held = subst (λ n. HeldBy (g.F.FileSystem.disk) n) c.self.view_is (c.self.invariant c.if-self.false).batches in
-    λ synced. synced_others (g.F.FileSystem.disk) c.args.self.now c.sync.new.self c.args.batch.now.items c.in_ok-sync.ensures.sound held (sym (ap (λ n. n.is_stopped) c.self.view_is) ∙ c.if-self.false)
+returns-then-sync-clause-others g c = λ synced. synced_others (g.F.FileSystem.disk) c.args.self.now c.sync.new.self c.args.batch.now.items c.in_ok-sync.ensures.left
 
 pub returns-in_err-sync-clause-others : goal.returns-in_err-sync-clause-others
-returns-in_err-sync-clause-others g c =
-    let held = subst (λ n. HeldBy (g.F.FileSystem.disk) n) c.self.view_is (c.self.invariant c.if-self.false).batches in
-    λ synced. synced_others (g.F.FileSystem.disk) c.args.self.now c.sync.new.self c.args.batch.now.items c.in_err-sync.ensures.sound held (sym (ap (λ n. n.is_stopped) c.self.view_is) ∙ c.if-self.false)
+returns-in_err-sync-clause-others g c = λ synced. synced_others (g.F.FileSystem.disk) c.args.self.now c.sync.new.self c.args.batch.now.items c.in_err-sync.ensures.left
 
 -- ---- why it is refused where nothing is set to refuse
 
@@ -327,3 +326,41 @@ returns-in-Err-clause-cause g c =
 pub returns-in-Err-apply-clause-cause : goal.returns-in-Err-apply-clause-cause
 returns-in-Err-apply-clause-cause g c =
     unapplied_cause (g.F.FileSystem.disk) c.args.self.now c.args.batch.now.items (g.F.FileSystem.meter c.args.self.now.files) (g.F.FileSystem.meter c.append_batch.new.files) c.in-Err-apply.fault c.in-Err-apply.ensures.err
+
+-- ---- where it goes on
+
+pub returns-then-self-clause-goes_on_in_tail : goal.returns-then-self-clause-goes_on_in_tail
+returns-then-self-clause-goes_on_in_tail g c = rw (← c.self.view_is) (λ alone going. absurd (false≢true (sym going ∙ c.if-self.true)))
+
+pub returns-then-is_empty-clause-goes_on_in_tail : goal.returns-then-is_empty-clause-goes_on_in_tail
+returns-then-is_empty-clause-goes_on_in_tail g c =
+    let met = g.met.F.FileSystem g.world.𝓛 g.world.𝓜 g.world.𝓡 ((λ s x. x), (λ x. x), (λ x. x), λ x. x) in
+    rw (← c.self.view_is) (λ alone going. stands_in_tail (g.F.FileSystem.disk) (parts c.self.inside.files c.self.inside.pipes c.self.inside.tables c.self.inside.is_stopped c.self.inside.wrote_unsynced c.self.inside.blocks.reads) (met.is_named c.self.inside.files) alone (c.self.invariant c.if-self.false).batches)
+
+pub returns-in_err-len-clause-goes_on_in_tail : goal.returns-in_err-len-clause-goes_on_in_tail
+returns-in_err-len-clause-goes_on_in_tail g c =
+    let met = g.met.F.FileSystem g.world.𝓛 g.world.𝓜 g.world.𝓡 ((λ s x. x), (λ x. x), (λ x. x), λ x. x) in
+    rw (← c.self.view_is) (λ alone going. stands_in_tail (g.F.FileSystem.disk) (parts c.self.inside.files c.self.inside.pipes c.self.inside.tables c.self.inside.is_stopped c.self.inside.wrote_unsynced c.self.inside.blocks.reads) (met.is_named c.self.inside.files) alone (c.self.invariant c.if-self.false).batches)
+
+pub returns-in_err-sync-clause-goes_on_in_tail : goal.returns-in_err-sync-clause-goes_on_in_tail
+returns-in_err-sync-clause-goes_on_in_tail g c = c.in_err-sync.ensures.goes_on_in_tail
+
+pub returns-then-sync-clause-goes_on_in_tail : goal.returns-then-sync-clause-goes_on_in_tail
+returns-then-sync-clause-goes_on_in_tail g c = c.in_ok-sync.ensures.goes_on_in_tail
+
+pub returns-in-Err-clause-goes_on_in_tail : goal.returns-in-Err-clause-goes_on_in_tail
+returns-in-Err-clause-goes_on_in_tail g c = λ alone going. absurd (false≢true (sym going))
+
+pub returns-in-Err-apply-clause-goes_on_in_tail : goal.returns-in-Err-apply-clause-goes_on_in_tail
+returns-in-Err-apply-clause-goes_on_in_tail g c = λ alone going. absurd (false≢true (sym going))
+
+pub returns-clause-goes_on_in_tail : goal.returns-clause-goes_on_in_tail
+returns-clause-goes_on_in_tail g c =
+    let met = g.met.F.FileSystem g.world.𝓛 g.world.𝓜 g.world.𝓡 ((λ s x. x), (λ x. x), (λ x. x), λ x. x) in
+    rw (← c.self.view_is) (λ alone going.
+    let stand = stand_on c.self.inside.pipes c.append_batch.new.pipes (g.F.FileSystem.disk c.self.inside.files) (g.F.FileSystem.disk c.append_batch.new.files) (record { paths = c.in-Ok.ensures.paths; other = c.in-Ok.ensures.other }) alone (c.in-Ok.ensures.alone alone.append) in
+    record {
+      alone = stand;
+      opens = more_in_tail (g.F.FileSystem.disk) (parts c.self.inside.files c.self.inside.pipes c.self.inside.tables c.self.inside.is_stopped c.self.inside.wrote_unsynced c.self.inside.blocks.reads) (c.self.invariant c.if-self.false).batches c.append_batch.new.files c.append_batch.new.pipes c.args.sync c.in-Ok.written.id.seq c.prepare.new.batch.items
+          (met.is_named c.append_batch.new.files) stand c.in-Ok.ensures.other c.in-Ok.ensures.ok;
+    })

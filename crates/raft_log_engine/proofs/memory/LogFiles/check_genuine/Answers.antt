@@ -1,5 +1,4 @@
 -- The most that a crash may leave is what reads see.
-use Rattle.std.proofs.Common.{sym}
 use Rattle.raft_log_disk.specs.MemorySystem.{disk_in}
 use Rattle.raft_log_engine.proofs.Crashes.{most_genuine, most_of_memory, on_ok, seen_genuine}
 use Rattle.raft_log_engine.proofs.memory.LogFiles.check_genuine.Goals as goal

@@ -1,5 +1,5 @@
 -- In one directory no two files have one number, so an engine that is opened stands alone.
-use Rattle.std.proofs.Common.{◌≡◌, List, false, refl, subst, ◌∙◌}
+use Rattle.std.proofs.Common.{◌≡◌, List, false, refl, ap, subst, ◌∙◌}
 use Rattle.raft_log_disk.specs.MemorySystem.{disk_in}
 use Rattle.raft_log_disk.specs.Text.{Text}
 use Rattle.raft_log_engine.specs.Left.{answers_on}
@@ -7,9 +7,12 @@ use Rattle.raft_log_engine.specs.declared.fault.EngineFault.TheVariants as fault
 use Rattle.raft_log_files.specs.declared.error.CorruptionFault.{CorruptionFault}
 use Rattle.raft_log_files.specs.declared.error.Error.TheVariants.{Corruption}
 use Rattle.raft_log_records.specs.declared.file_id.LogQueue.{LogQueue}
+use Rattle.raft_log_records.specs.declared.size.ReadableSize.{ReadableSize}
+use Rattle.raft_log_records.specs.declared.version.Version.{Version}
+use Rattle.raft_log_disk.specs.declared.format.LogFileFormat.{LogFileFormat}
 use Rattle.raft_log_files.specs.declared.recovery.RecoveryMode.{RecoveryMode}
 use Rattle.raft_log_engine.specs.Log.{main_directory}
-use Rattle.raft_log_engine.specs.Opening.{CantBeOpened, IsFoundAgain, IsLeftByOpening}
+use Rattle.raft_log_engine.specs.Opening.{CantBeOpened, HasHolesIn, IsFoundAgain, IsLeftByOpening}
 use Rattle.raft_log_engine.specs.Reopened.{OpensInTail}
 use Rattle.raft_log_engine.proofs.Corrupt.{along}
 use Rattle.raft_log_engine.proofs.Logs.{leaves_only}
@@ -46,3 +49,21 @@ pub returns-in-Ok-open_alone-clause-opens_in_tail : goal.returns-in-Ok-open_alon
 returns-in-Ok-open_alone-clause-opens_in_tail c =
     let alone = c.in-Ok-open_alone.ensures.alone (c.in-Ok.ensures.once (disk_in c.args.files.files).names) in
     subst (λ (l : List Text). OpensInTail l (disk_in c.in-Ok-open_alone.engine.files) c.in-Ok-open_alone.engine.pipes) (c.in-Ok-open_alone.ensures.directories ∙ c.in-Ok.ensures.directories) (c.in-Ok-open_alone.ensures.opens_in_tail alone)
+
+-- ---- as the settings say
+
+-- the format of new files
+abbrev plain_format : Version → LogFileFormat
+plain_format version = record { version = version; alignment = 0 }
+
+pub returns-in-Ok-open_alone-clause-set : goal.returns-in-Ok-open_alone-clause-set
+returns-in-Ok-open_alone-clause-set c =
+    let set = c.in-Ok-open_alone.ensures.settings in
+    let sizes = c.in-Ok.ensures.sizes in (
+      (set.0.0 ∙ ap (λ (x : ReadableSize). x.0) sizes.0, set.0.1 ∙ ap plain_format sizes.1),
+      (set.1.0 ∙ ap (λ (x : ReadableSize). x.0) sizes.0, set.1.1 ∙ ap plain_format sizes.1),
+    )
+
+pub returns-in-Ok-open_alone-clause-holes : goal.returns-in-Ok-open_alone-clause-holes
+returns-in-Ok-open_alone-clause-holes c =
+    subst (λ (m : RecoveryMode). HasHolesIn m (disk_in c.in-Ok-open_alone.engine.files) c.in-Ok-open_alone.engine.pipes) c.in-Ok.ensures.mode c.in-Ok-open_alone.ensures.holes
