@@ -16,6 +16,6 @@ invariant-loop-group g l =
           ≡ filter (λ group. is_some ((L.answers l.initial.self.log group).value group_key)) (into_iter_items l.initial.group-iterator);
       sound : L.is_sound l.initial.self.log → L.is_sound l.self.log;
       steady : L.is_sound l.self.log → L.is_sound l.initial.self.log × (L.answers l.self.log ≡ L.answers l.initial.self.log);
-      kept : KeepsAll (ShowsBy g.M.StateMachine.rules L.is_sound L.answers L.leaves l.initial.self.log) (ShowsBy g.M.StateMachine.rules L.is_sound L.answers L.leaves l.self.log);
+      kept : KeepsAll (ShowsBy g.M.StateMachine.rules L.is_sound L.answers L.leaves l.initial.self.log l.initial.self.recent) (ShowsBy g.M.StateMachine.rules L.is_sound L.answers L.leaves l.self.log l.self.recent);
       left : into_iter_len l.group-iterator ≡ length (into_iter_items l.group-iterator);
     }
