@@ -5,12 +5,15 @@ use Rattle.std.specs.Ordering.{eq_by_cmp, nat_cmp}
 use Rattle.std.specs.List.Sorted.{IsStrictlySortedBy}
 use Rattle.std.specs.Set.{is_member}
 use Rattle.std.proofs.lemmas.Bool.Decides.{nat_tests}
+use Rattle.raft_values.specs.declared.log_id.LogId.{LogId}
+use Rattle.raft_values.specs.declared.vote.Vote.{Vote}
 use Rattle.raft_engine.proofs.TurnLemmas.{led_role, unled_role}
 use Rattle.raft_engine.specs.Standing.{IsStateOf, PlaysRole}
 use Rattle.raft_group_step.specs.GroupState.{GroupState, is_leader}
 use Rattle.raft_group_step.specs.StoredGroup.{last_id}
 use Rattle.raft_group_step.specs.VoteRequest.{is_recent, is_under_lease, lease}
 use Rattle.raft_list_facts.specs.Leads.{base_of, leading_of}
+use Rattle.raft_list_facts.specs.declared.leading.Base.{Base}
 use Rattle.raft_list_facts.specs.declared.leading.Leading.{Leading}
 use Rattle.raft_member.specs.Member.{Engine}
 use Rattle.raft_node.specs.Reading.{behind_lease, free_from}
@@ -50,14 +53,19 @@ module _ (own : ℕ) (e : Engine) (s : GroupState) (at : IsStateOf own e s) wher
       ])
       at.role
 
-  abbrev pub told_by_state : Leading
-  told_by_state = record { vote = s.stored.vote; last = last_id s.stored; base = base_of s.stored }
+  abbrev telling : Vote ℕ → Option (LogId ℕ) → Base → Leading
+  telling vote last base = record { vote = vote; last = last; base = base }
+
+  abbrev if_led : Bool → Option Leading
+  if_led b = if b then Some (telling s.stored.vote (last_id s.stored) (base_of s.stored)) else None
 
   pub leads_nothing : is_some e.leader ≡ false → None ≡ leading_of s
-  leads_nothing none = sym (ap (λ (b : Bool). if b then Some told_by_state else None) (leads_so ∙ none))
+  leads_nothing none = sym (ap if_led (leads_so ∙ none))
 
-  pub leads_with : (told : Leading) → is_some e.leader ≡ true → told.vote ≡ s.stored.vote → told.last ≡ last_id s.stored → told.base ≡ base_of s.stored
-      → Some told ≡ leading_of s
-  leads_with told some vote last base =
-      let same : told ≡ told_by_state = cc in
-      ap (λ (t : Leading). Some t) same ∙ sym (ap (λ (b : Bool). if b then Some told_by_state else None) (leads_so ∙ some))
+  pub leads_with : (vote : Vote ℕ) (last : Option (LogId ℕ)) (base : Base) → is_some e.leader ≡ true → vote ≡ s.stored.vote → last ≡ last_id s.stored
+      → base ≡ base_of s.stored → Some (record { vote = vote; last = last; base = base }) ≡ leading_of s
+  leads_with vote last base some same_vote same_last same_base =
+      ap (λ v. Some (telling v last base)) same_vote
+      ∙ ap (λ l. Some (telling s.stored.vote l base)) same_last
+      ∙ ap (λ b. Some (telling s.stored.vote (last_id s.stored) b)) same_base
+      ∙ sym (ap if_led (leads_so ∙ some))

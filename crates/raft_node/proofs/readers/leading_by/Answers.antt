@@ -9,5 +9,5 @@ returns-then-is_none c = λ own s at. leads_nothing own c.args.engine.now s at (
 
 pub returns : goal.returns
 returns c = λ own s at.
-    leads_with own c.args.engine.now s _ at (c.is_none.ensures ∙ ap not c.if-is_none.false)
+    leads_with own c.args.engine.now s at _ _ _ (c.is_none.ensures ∙ ap not c.if-is_none.false)
     (c.get.ensures ∙ at.knows.vote) (c.last_log_id.ensures s.stored at.knows at.order.placed) (c.base_of.ensures s.stored at.knows)
