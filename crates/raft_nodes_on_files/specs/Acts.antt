@@ -251,7 +251,7 @@ module _ {M : Type 0} {g : Ghosts M} (rules : MachineRules) (state : M → List 
   -- it tells what it leads the group with; one that is down leads nothing
   abbrev pub LeadsAs : Option (UpNode M g) → ℕ → Option Leading → Type 0
   LeadsAs None group told = told ≡ None
-  LeadsAs (Some n) group told = TellsOf (of n) group told leading_of
+  LeadsAs (Some n) group told = TellsOf (value rules state n) group told leading_of
 
   -- ---- all calls
 
