@@ -52,7 +52,7 @@ module _ (rules : MachineRules) where
   leads_up : (n : NodeValue) (h : ℕ) (told : Option Leading) (s : GroupState) → n.groups.has_failed ≡ false → IsUpIn rules n h s → TellsOf n h told leading_of
       → told ≡ leading_of s
   leads_up n h told s going (inl at) tells = tells.up s going at.up
-  leads_up n h told s going (inr (none, without)) tells = tells.absent without.absent ∙ sym (ap leading_of none)
+  leads_up n h told s going (inr (none, without)) tells = tells.absent without.absent.0 ∙ sym (ap leading_of none)
 
   leads_when : (failed : Bool) (n : NodeValue) (h : ℕ) (told : Option Leading) (s : NodeState) (more : List NodeState) → n.groups.has_failed ≡ failed
       → MayBeWhen rules n h failed (s ∷ more) → TellsOf n h told leading_of → told ≡ leading_in s
