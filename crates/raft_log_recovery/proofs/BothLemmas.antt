@@ -1,5 +1,5 @@
 -- An opening of both queues is one of each.
-use Rattle.std.proofs.Common.{◌≡◌, ◌<◌, inl, inr, ℕ, List, [], ◌∷◌, ◌++◌, length, refl, sym, ap, subst, ◌∙◌, arith, Result, Ok, Err}
+use Rattle.std.proofs.Common.{append-nil, ◌≡◌, ◌<◌, ◌⊎◌, inl, inr, ℕ, List, [], ◌∷◌, ◌++◌, length, refl, sym, ap, subst, ◌∙◌, arith, Result, Ok, Err}
 use Rattle.std.specs.Prelude.{IfOk, IsErr, OnErr}
 use Rattle.std.proofs.lemmas.Bool.{false≢true}
 use Rattle.raft_log_records.specs.declared.file_id.LogQueue.{LogQueue}
@@ -8,6 +8,7 @@ use Rattle.raft_log_disk.specs.Disk.{Disk, FileState, IsIn, IsNamed, fd_of}
 use Rattle.raft_log_disk.specs.Text.{Text}
 use Rattle.raft_log_files.specs.FileName.{IsFileSeq}
 use Rattle.raft_log_files.specs.declared.recovery.RecoveryMode.{RecoveryMode}
+use Rattle.raft_log_pipe.specs.declared.file.File.{File}
 use Rattle.raft_log_pipe.specs.declared.pipe.SinglePipe.{SinglePipe}
 use Rattle.raft_log_pipe.specs.Alone.{IsAlone, IsOnce, Names, directories_of_pipe}
 use Rattle.raft_log_pipe.specs.Others.{KeepsOthers}
@@ -15,16 +16,16 @@ use Rattle.raft_log_pipe.specs.Pipe.{Holds, IsPipe, Numbered, id_of}
 use Rattle.raft_log_pipe.proofs.AloneLemmas.{in_second}
 use Rattle.raft_log_pipe.proofs.OthersLemmas.{alone_beside, once_beside, pipe_beside, pipe_holds_beside, same_others}
 use Rattle.raft_log_pipes.specs.declared.pipes.DualPipes.{DualPipes}
-use Rattle.raft_log_pipes.specs.Pipes.{ArePipes, pipe_of}
+use Rattle.raft_log_pipes.specs.Pipes.{ArePipes, other_queue, pipe_of}
 use Rattle.raft_log_pipes.proofs.QueueLemmas.{not_append, not_rewrite}
 use Rattle.raft_log_recovery.specs.declared.builder.DualPipesBuilder.{DualPipesBuilder}
 use Rattle.raft_log_recovery.specs.declared.scan.FileKind.TheVariants.{Log}
 use Rattle.raft_log_recovery.specs.declared.scan.FileName.{FileName}
-use Rattle.raft_log_recovery.specs.Both.{AreOpened, ArePipesWith, CantBeOpened, IsFoundBy, IsOpened, IsSetBy, LeavesBoth, LeavesQueue}
+use Rattle.raft_log_recovery.specs.Both.{AreOpened, ArePipesWith, ChangesBoth, CantBeOpened, IsFoundBy, IsOpened, IsSetBy, LeavesBoth, LeavesQueue}
 use Rattle.raft_log_recovery.specs.Crashed.{HasHole}
 use Rattle.raft_log_recovery.specs.Holes.{HolesOnlyBroken}
-use Rattle.raft_log_recovery.specs.Opening.{IsPipeWith, batches_of}
-use Rattle.raft_log_recovery.specs.Queue.{AnyRefused, AreNumbered, ChangesAtMost, IsFileOf, KeepsRefused, directories_in, names_in, path_of}
+use Rattle.raft_log_recovery.specs.Opening.{AreAllGot, IsPipeWith, batches_of}
+use Rattle.raft_log_recovery.specs.Queue.{AnyRefused, AreNumbered, AreOpen, ChangesAtMost, IsFileOf, KeepsRefused, directories_in, names_in, path_of}
 use Rattle.raft_log_recovery.specs.Repair.{IsAtRest, LeavesBatches, batches_in}
 use Rattle.raft_log_recovery.specs.Replay.{Placed}
 use Rattle.raft_log_recovery.specs.Scan.{AreFound}
@@ -131,84 +132,134 @@ module _ (directories : List Text) (own other : LogQueue) (names : List FileName
         got = got_same own mid d back between old directories count names w.files [] all numbers w.pipe.opened w.got;
       }
 
--- ---- the rewrite queue was opened
+-- ---- one queue was opened
 
-module _ (mode : RecoveryMode) (b : DualPipesBuilder) (d mid : Disk) (old : IsNamed d) (between : IsNamed mid) (rewrite : IsFoundBy b Rewrite d) (append : IsFoundBy b Append d) (rewrites : KeepsOthers Rewrite d mid) where
+pub apart_from : (first : LogQueue) → other_queue first ≡ first → ⊥
+apart_from Append e = not_rewrite Append refl (sym e)
+apart_from Rewrite e = not_append Rewrite refl (sym e)
+
+pub found_of : (b : DualPipesBuilder) (d : Disk) (queue : LogQueue) → IsFoundBy b Append d → IsFoundBy b Rewrite d → IsFoundBy b queue d
+found_of b d Append append rewrite = append
+found_of b d Rewrite append rewrite = rewrite
+
+-- what both leave, by which was first
+leave_both : (mode : RecoveryMode) (b : DualPipesBuilder) (first : LogQueue) (d new : Disk) → LeavesQueue mode (directories_in b) first (names_in b first) d new
+    → LeavesQueue mode (directories_in b) (other_queue first) (names_in b (other_queue first)) d new → ChangesBoth d new → LeavesBoth mode b d new
+leave_both mode b Append d new one two only = record { append = one; rewrite = two; only = only }
+leave_both mode b Rewrite d new one two only = record { append = two; rewrite = one; only = only }
+
+open_both : (b : DualPipesBuilder) (first : LogQueue) (d new : Disk) (both : DualPipes) → IsOpened b first d new (pipe_of both first) → IsOpened b (other_queue first) d new (pipe_of both (other_queue first)) → AreOpened b d new both
+open_both b Append d new both one two = record { append = one; rewrite = two }
+open_both b Rewrite d new both one two = record { append = two; rewrite = one }
+
+are_both : (first : LogQueue) (new : Disk) (both : DualPipes) → IsPipe (pipe_of both first) new → IsPipe (pipe_of both (other_queue first)) new → ArePipes both new
+are_both Append new both one two = record { append = one; rewrite = two }
+are_both Rewrite new both one two = record { append = two; rewrite = one }
+
+each_of : (P : LogQueue → Type 0) (first : LogQueue) → P first → P (other_queue first) → (queue : LogQueue) → P queue
+each_of P Append one two Append = one
+each_of P Append one two Rewrite = two
+each_of P Rewrite one two Append = two
+each_of P Rewrite one two Rewrite = one
+
+module _ (mode : RecoveryMode) (b : DualPipesBuilder) (first : LogQueue) (d mid : Disk) (old : IsNamed d) (between : IsNamed mid) (one_found : IsFoundBy b first d) (two_found : IsFoundBy b (other_queue first) d)
+    (earlier : KeepsOthers first d mid) where
   abbrev At : List Text
   At = directories_in b
 
-  same : HaveSame Append d mid
-  same = have_beside Rewrite Append d mid (not_rewrite Append refl) old between rewrites
+  abbrev Other : LogQueue
+  Other = other_queue first
 
-  pub found_still : IsFoundBy b Append mid
-  found_still = found_same Append d mid same old between At (names_in b Append) append
+  same : HaveSame Other d mid
+  same = have_beside first Other d mid (apart_from first) old between earlier
 
-  pub first_leaves : LeavesQueue mode At Rewrite (names_in b Rewrite) d mid → LeavesBoth mode b d mid
-  first_leaves leaves = record {
-    rewrite = leaves;
-    append = leaves_untouched mode At Append (names_in b Append) d mid same old between append;
-    only = record { between = mid; rewrites = rewrites; appends = same_others Append mid mid refl };
-  }
+  pub found_still : IsFoundBy b Other mid
+  found_still = found_same Other d mid same old between At (names_in b Other) two_found
 
-  cant_still : CantBeOpened mode b Append d → CantBeOpened mode b Append mid
-  cant_still (inl refused) = inl (refused_same Append d mid same old between mode At (length At) (names_in b Append) (numbers_in mode At Append (names_in b Append) d append) refused)
-  cant_still (inr aligned) = inr (aligned_same Append d mid same old between At (length At) (names_in b Append) (numbers_in mode At Append (names_in b Append) d append) aligned)
+  pub first_leaves : LeavesQueue mode At first (names_in b first) d mid → LeavesBoth mode b d mid
+  first_leaves leaves =
+      leave_both mode b first d mid leaves (leaves_untouched mode At Other (names_in b Other) d mid same old between two_found)
+      (record { first = first; between = mid; earlier = earlier; later = same_others Other mid mid refl })
+
+  cant_still : CantBeOpened mode b Other d → CantBeOpened mode b Other mid
+  cant_still (inl refused) = inl (refused_same Other d mid same old between mode At (length At) (names_in b Other) (numbers_in mode At Other (names_in b Other) d two_found) refused)
+  cant_still (inr aligned) = inr (aligned_same Other d mid same old between At (length At) (names_in b Other) (numbers_in mode At Other (names_in b Other) d two_found) aligned)
 
   -- what can't be opened of either queue wasn't
-  pub neither : (CantBeOpened mode b Rewrite d → ⊥) → (CantBeOpened mode b Append mid → ⊥) → (queue : LogQueue) → CantBeOpened mode b queue d → ⊥
-  neither one two Rewrite cant = one cant
-  neither one two Append cant = two (cant_still cant)
+  pub neither : (CantBeOpened mode b first d → ⊥) → (CantBeOpened mode b Other mid → ⊥) → (queue : LogQueue) → CantBeOpened mode b queue d → ⊥
+  neither one two = each_of (λ queue. CantBeOpened mode b queue d → ⊥) first one (λ cant. two (cant_still cant))
 
-  -- and then the append queue
-  module _ (new : Disk) (next : IsNamed new) (appends : KeepsOthers Append mid new) where
-    pub both_leave : LeavesQueue mode At Rewrite (names_in b Rewrite) d mid → ChangesAtMost At Rewrite (names_in b Rewrite) d mid → LeavesQueue mode At Append (names_in b Append) mid new → LeavesBoth mode b d new
-    both_leave first only second = record {
-      rewrite = leaves_on mode At Rewrite (names_in b Rewrite) d mid new (have_beside Append Rewrite mid new (not_append Rewrite refl) between next appends) between next rewrite only first;
-      append = leaves_from mode At Append (names_in b Append) d mid new same old between append second;
-      only = record { between = mid; rewrites = rewrites; appends = appends };
-    }
+  -- and then the other one
+  module _ (new : Disk) (next : IsNamed new) (later : KeepsOthers Other mid new) where
+    pub both_leave : LeavesQueue mode At first (names_in b first) d mid → ChangesAtMost At first (names_in b first) d mid → LeavesQueue mode At Other (names_in b Other) mid new → LeavesBoth mode b d new
+    both_leave leaves only second =
+        leave_both mode b first d new
+        (leaves_on mode At first (names_in b first) d mid new (have_beside Other first mid new (λ e. apart_from first (sym e)) between next later) between next one_found only leaves)
+        (leaves_from mode At Other (names_in b Other) d mid new same old between two_found second)
+        (record { first = first; between = mid; earlier = earlier; later = later })
 
-    module _ (p q : SinglePipe) (both : DualPipes) (is : (both.append ≡ q) × (both.rewrite ≡ p)) (first : IsOpened b Rewrite d mid p) (second : IsOpened b Append mid new q) where
-      apart : p.queue ≡ Append → ⊥
-      apart other = not_append p.queue first.queue_is other
+    module _ (p q : SinglePipe) (both : DualPipes) (one_is : pipe_of both first ≡ p) (two_is : pipe_of both Other ≡ q) (one : IsOpened b first d mid p) (two : IsOpened b Other mid new q) where
+      apart : p.queue ≡ Other → ⊥
+      apart other = apart_from first (sym other ∙ one.queue_is)
 
       pub both_opened : AreOpened b d new both
-      both_opened = record {
-        rewrite = subst (IsOpened b Rewrite d new) (sym is.1) (record {
-          pipe = pipe_beside Append p mid new apart appends first.pipe;
-          queue_is = first.queue_is;
-          paths = first.paths;
-          alone = λ once. alone_beside Append p mid new apart appends between next (first.alone once);
-          settings = first.settings;
-        });
-        append = subst (IsOpened b Append d new) (sym is.0) (record {
-          pipe = second.pipe;
-          queue_is = second.queue_is;
-          paths = second.paths;
-          alone = λ once. second.alone (once_beside Rewrite Append d mid (not_rewrite Append refl) rewrites At old once);
-          settings = second.settings;
-        });
-      }
+      both_opened =
+          open_both b first d new both
+          (subst (IsOpened b first d new) (sym one_is) (record {
+            pipe = pipe_beside Other p mid new apart later one.pipe;
+            queue_is = one.queue_is;
+            paths = one.paths;
+            alone = λ once. alone_beside Other p mid new apart later between next (one.alone once);
+            settings = one.settings;
+          }))
+          (subst (IsOpened b Other d new) (sym two_is) (record {
+            pipe = two.pipe;
+            queue_is = two.queue_is;
+            paths = two.paths;
+            alone = λ once. two.alone (once_beside first Other d mid (apart_from first) earlier At old once);
+            settings = two.settings;
+          }))
 
       pub both_pipes : ArePipes both new
-      both_pipes = record {
-        rewrite = subst (λ (x : SinglePipe). IsPipe x new) (sym is.1) (pipe_beside Append p mid new apart appends first.pipe);
-        append = subst (λ (x : SinglePipe). IsPipe x new) (sym is.0) second.pipe;
-      }
+      both_pipes =
+          are_both first new both (subst (λ (x : SinglePipe). IsPipe x new) (sym one_is) (pipe_beside Other p mid new apart later one.pipe))
+          (subst (λ (x : SinglePipe). IsPipe x new) (sym two_is) two.pipe)
 
-      pub both_with : (ones twos : List Placed) → IsPipeWith At Rewrite (names_in b Rewrite) d mid p ones → IsPipeWith At Append (names_in b Append) mid new q twos → ArePipesWith b d new both (ones ++ twos)
-      both_with ones twos one two = record {
-        appends = twos;
-        rewrites = ones;
-        all_are = refl;
-        append = subst (λ (x : SinglePipe). IsPipeWith At Append (names_in b Append) d new x twos) (sym is.0) (with_from At Append Rewrite (names_in b Append) d mid new q twos same old between append two);
-        rewrite = subst (λ (x : SinglePipe). IsPipeWith At Rewrite (names_in b Rewrite) d new x ones) (sym is.1) (with_on At Rewrite Append (names_in b Rewrite) d mid new p ones apart appends one);
-      }
+      pub one_with : (ones : List Placed) → IsPipeWith At first (names_in b first) d mid p ones → IsPipeWith At first (names_in b first) d new (pipe_of both first) ones
+      one_with ones w = subst (λ (x : SinglePipe). IsPipeWith At first (names_in b first) d new x ones) (sym one_is) (with_on At first Other (names_in b first) d mid new p ones apart later w)
 
-      pub both_holes : (ones : List Placed) → IsPipeWith At Rewrite (names_in b Rewrite) d mid p ones → HolesOnlyBroken mode At Rewrite (names_in b Rewrite) d mid p → HolesOnlyBroken mode At Append (names_in b Append) mid new q → (queue : LogQueue)
+      pub two_with : (twos : List Placed) → IsPipeWith At Other (names_in b Other) mid new q twos → IsPipeWith At Other (names_in b Other) d new (pipe_of both Other) twos
+      two_with twos w = subst (λ (x : SinglePipe). IsPipeWith At Other (names_in b Other) d new x twos) (sym two_is) (with_from At Other first (names_in b Other) d mid new q twos same old between two_found w)
+
+      pub both_holes : (ones : List Placed) → IsPipeWith At first (names_in b first) d mid p ones → HolesOnlyBroken mode At first (names_in b first) d mid p → HolesOnlyBroken mode At Other (names_in b Other) mid new q → (queue : LogQueue)
           → HolesOnlyBroken mode At queue (names_in b queue) d new (pipe_of both queue)
-      both_holes ones one early late Rewrite hole =
-          early (hole_before Append p mid new (batches_of Rewrite d one.files) [] apart appends one.pipe.holds (subst (λ (x : SinglePipe). HasHole x new) is.1 hole))
-      both_holes ones one early late Append hole =
-          let broken = late (subst (λ (x : SinglePipe). HasHole x new) is.0 hole) in
-          (broken.0, broken_before Append d mid same old between At (length At) (names_in b Append) (numbers_in mode At Append (names_in b Append) d append) broken.1)
+      both_holes ones w early late =
+          each_of (λ queue. HolesOnlyBroken mode At queue (names_in b queue) d new (pipe_of both queue)) first
+          (λ hole. early (hole_before Other p mid new (batches_of first d w.files) [] apart later w.pipe.holds (subst (λ (x : SinglePipe). HasHole x new) one_is hole)))
+          (λ hole.
+          let broken = late (subst (λ (x : SinglePipe). HasHole x new) two_is hole) in
+          (broken.0, broken_before Other d mid same old between At (length At) (names_in b Other) (numbers_in mode At Other (names_in b Other) d two_found) broken.1))
+
+-- ---- what was replayed
+
+-- a queue without files has no batches
+none_replayed : (directories : List Text) (queue : LogQueue) (names : List FileName) (d new : Disk) (p : SinglePipe) (all : List Placed) → names ≡ [] → IsPipeWith directories queue names d new p all → all ≡ []
+none_replayed directories queue names d new p all none w =
+    let files : w.files ≡ [] = subst (λ (ns : List FileName). AreOpen d directories queue ns w.files) none w.pipe.opened in
+    subst (λ (fs : List File). AreAllGot queue d [] fs all) files w.got
+
+-- those of the rewrite queue come first, or the append queue has none
+pub with_both : (b : DualPipesBuilder) (first : LogQueue) (d new : Disk) (both : DualPipes) (ones twos : List Placed) → (first ≡ Rewrite) ⊎ (names_in b first ≡ [])
+    → IsPipeWith (directories_in b) first (names_in b first) d new (pipe_of both first) ones → IsPipeWith (directories_in b) (other_queue first) (names_in b (other_queue first)) d new (pipe_of both (other_queue first)) twos
+    → ArePipesWith b d new both (ones ++ twos)
+with_both b Rewrite d new both ones twos order one two = record { rewrites = ones; appends = twos; all_are = refl; rewrite = one; append = two }
+with_both b Append d new both ones twos (inl e) one two = absurd (not_append Append e refl)
+with_both b Append d new both ones twos (inr none) one two = record {
+  rewrites = twos;
+  appends = ones;
+  all_are =
+      let nothing = none_replayed (directories_in b) Append (names_in b Append) d new both.append ones none one in
+      ap (λ (l : List Placed). l ++ twos) nothing ∙ sym (append-nil twos) ∙ ap (λ (l : List Placed). twos ++ l) (sym nothing);
+  rewrite = two;
+  append = one;
+}

@@ -7,7 +7,6 @@ use Rattle.std.proofs.lemmas.Bool.{eqb-false, ltb-false}
 use Rattle.std.proofs.lemmas.Result.{err_from_is_err_and}
 use Rattle.raft_log_records.specs.declared.file_id.FileId.{FileId}
 use Rattle.raft_log_records.specs.declared.file_id.LogQueue.{LogQueue}
-use Rattle.raft_log_records.specs.declared.file_id.LogQueue.TheVariants.{Append, Rewrite}
 use Rattle.raft_log_records.specs.declared.version.Version.TheVariants.{V1, V2}
 use Rattle.raft_log_disk.specs.declared.format.LogFileFormat.{LogFileFormat}
 use Rattle.raft_log_disk.specs.declared.format.HeaderFault.{HeaderFault}
@@ -24,7 +23,7 @@ use Rattle.raft_log_files.specs.declared.recovery.RecoveryMode.{RecoveryMode}
 use Rattle.raft_log_pipe.specs.declared.file.File.{File}
 use Rattle.raft_log_pipe.specs.Others.{KeepsOthers}
 use Rattle.raft_log_pipe.specs.Pipe.{id_of}
-use Rattle.raft_log_pipes.proofs.QueueLemmas.{not_rewrite}
+use Rattle.raft_log_pipes.specs.Pipes.{other_queue}
 use Rattle.raft_log_recovery.specs.declared.builder.DualPipesBuilder.{DualPipesBuilder}
 use Rattle.raft_log_recovery.specs.declared.scan.FileKind.TheVariants.{Log}
 use Rattle.raft_log_recovery.specs.declared.scan.FileName.{FileName}
@@ -33,6 +32,7 @@ use Rattle.raft_log_recovery.specs.Opening.{AnyAligned}
 use Rattle.raft_log_recovery.specs.Queue.{AnyRefused, AreNumbered, AreOpen, AreRecovered, IsFileOf, IsRecovered, directories_in, names_in}
 use Rattle.raft_log_recovery.specs.Repair.{cuts_faults, fault_in, format_in}
 use Rattle.raft_log_recovery.proofs.BesideLemmas.{HaveSame, aligned_same, have_beside, refused_same, turned}
+use Rattle.raft_log_recovery.proofs.BothLemmas.{apart_from}
 use Rattle.raft_log_recovery.proofs.FoundLemmas.{found_numbered}
 use Rattle.raft_log_recovery.proofs.QueueLemmas.{last_told, of_old, place_at, untouched}
 use Rattle.raft_log_recovery.proofs.TurnLemmas.{Turn}
@@ -142,16 +142,17 @@ any_aligned directories queue old mid names fs so any = aligned_in old directori
 
 -- ---- both queues
 
--- what can't be opened of the append queue behind an opening of the rewrite queue couldn't before
-pub cant_before : (mode : RecoveryMode) (b : DualPipesBuilder) (d mid : Disk) → IsNamed d → IsNamed mid → IsFoundBy b Append d → KeepsOthers Rewrite d mid → CantBeOpened mode b Append mid → CantBeOpened mode b Append d
-cant_before mode b d mid old between found rewrites cant = by_reason cant
+-- what can't be opened of the other queue behind an opening of the first couldn't before
+pub cant_before : (mode : RecoveryMode) (b : DualPipesBuilder) (first : LogQueue) (d mid : Disk) → IsNamed d → IsNamed mid → IsFoundBy b (other_queue first) d → KeepsOthers first d mid → CantBeOpened mode b (other_queue first) mid
+    → CantBeOpened mode b (other_queue first) d
+cant_before mode b first d mid old between found earlier cant = by_reason cant
   where
-    numbers : AreNumbered (length (directories_in b)) (names_in b Append)
-    numbers = found_numbered d (Log Append) (directories_in b) (length (directories_in b)) (names_in b Append) (omega arith) found
+    numbers : AreNumbered (length (directories_in b)) (names_in b (other_queue first))
+    numbers = found_numbered d (Log (other_queue first)) (directories_in b) (length (directories_in b)) (names_in b (other_queue first)) (omega arith) found
 
-    back : HaveSame Append mid d
-    back = turned Append d mid (have_beside Rewrite Append d mid (not_rewrite Append refl) old between rewrites)
+    back : HaveSame (other_queue first) mid d
+    back = turned (other_queue first) d mid (have_beside first (other_queue first) d mid (apart_from first) old between earlier)
 
-    by_reason : CantBeOpened mode b Append mid → CantBeOpened mode b Append d
-    by_reason (inl refused) = inl (refused_same Append mid d back between old mode (directories_in b) (length (directories_in b)) (names_in b Append) numbers refused)
-    by_reason (inr aligned) = inr (aligned_same Append mid d back between old (directories_in b) (length (directories_in b)) (names_in b Append) numbers aligned)
+    by_reason : CantBeOpened mode b (other_queue first) mid → CantBeOpened mode b (other_queue first) d
+    by_reason (inl refused) = inl (refused_same (other_queue first) mid d back between old mode (directories_in b) (length (directories_in b)) (names_in b (other_queue first)) numbers refused)
+    by_reason (inr aligned) = inr (aligned_same (other_queue first) mid d back between old (directories_in b) (length (directories_in b)) (names_in b (other_queue first)) numbers aligned)

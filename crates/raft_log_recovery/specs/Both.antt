@@ -1,4 +1,4 @@
--- Both queues, opened one beside the other: the rewrite queue first, then the append queue.
+-- Both queues, opened one after the other: the rewrite queue first, unless the append queue has no files.
 use Rattle.std.specs.Prelude.{◌≡◌, ◌⊎◌, List, ◌++◌, Result}
 use Rattle.raft_log_records.specs.declared.file_id.LogQueue.{LogQueue}
 use Rattle.raft_log_records.specs.declared.file_id.LogQueue.TheVariants.{Append, Rewrite}
@@ -12,7 +12,7 @@ use Rattle.raft_log_pipe.specs.Alone.{IsAlone, IsOnce, directories_of_pipe}
 use Rattle.raft_log_pipe.specs.Others.{KeepsOthers}
 use Rattle.raft_log_pipe.specs.Pipe.{IsPipe}
 use Rattle.raft_log_pipes.specs.declared.pipes.DualPipes.{DualPipes}
-use Rattle.raft_log_pipes.specs.Pipes.{pipe_of}
+use Rattle.raft_log_pipes.specs.Pipes.{other_queue, pipe_of}
 use Rattle.raft_log_recovery.specs.declared.builder.DualPipesBuilder.{DualPipesBuilder}
 use Rattle.raft_log_recovery.specs.declared.scan.FileKind.TheVariants.{Log}
 use Rattle.raft_log_recovery.specs.declared.scan.FileName.{FileName}
@@ -40,11 +40,12 @@ pub record LeavesQueue (mode : RecoveryMode) (directories : List Text) (queue : 
   pub left : AreLeft directories queue names old new
   pub kept : KeepsRefused mode directories queue names old new
 
--- files of the rewrite queue changed, then files of the append queue, and nothing else
+-- files of one queue changed, then files of the other, and nothing else
 pub record ChangesBoth (old new : Disk) : Type 0 where
+  pub first : LogQueue
   pub between : Disk
-  pub rewrites : KeepsOthers Rewrite old between
-  pub appends : KeepsOthers Append between new
+  pub earlier : KeepsOthers first old between
+  pub later : KeepsOthers (other_queue first) between new
 
 -- so much of both queues
 pub record LeavesBoth (mode : RecoveryMode) (builder : DualPipesBuilder) (old new : Disk) : Type 0 where

@@ -1,12 +1,12 @@
-//! Both queues, recovered and opened one beside the other.
+//! Both queues, recovered and opened one after the other.
 
-ghost use Rattle.std.specs.Prelude.{◌≡◌, ◌++◌, List, Err, IfErr, IfOk, IsErr};
+ghost use Rattle.std.specs.Prelude.{◌≡◌, ◌⊎◌, ◌++◌, List, [], Err, IfErr, IfOk, IsErr};
 ghost use Rattle.raft_log_disk.specs.Cause.{NothingRefuses, RefusesNoMore};
 ghost use Rattle.raft_log_files.specs.Settings.{settings_of};
 ghost use Rattle.raft_log_files.specs.declared.error.CorruptionFault.{CorruptionFault};
 ghost use Rattle.raft_log_files.specs.declared.error.Error.TheVariants.{Corruption};
 ghost use Rattle.raft_log_pipe.specs.Others.{KeepsOthers};
-ghost use Rattle.raft_log_pipes.specs.Pipes.{ArePipes};
+ghost use Rattle.raft_log_pipes.specs.Pipes.{ArePipes, other_queue, pipe_of};
 ghost use Rattle.raft_log_records.specs.declared.file_id.LogQueue.{LogQueue};
 ghost use Rattle.raft_log_records.specs.declared.file_id.LogQueue.TheVariants.{Append, Rewrite};
 ghost use Rattle.raft_log_recovery.specs.Both.{AreOpened, ArePipesWith, AreTaken, CantBeOpened, HasFewHoles, HaveFewHoles, IsEitherFault, IsFaultOf, IsFoundBy, IsOpened, LeavesBoth, LeavesQueue};
@@ -21,6 +21,29 @@ use raft_log_files::{Error, FileSystem, RecoveryConfig};
 use raft_log_pipe::SinglePipe;
 use raft_log_pipes::DualPipes;
 use raft_log_records::LogQueue;
+
+// The other queue.
+fn other_of(queue: LogQueue) -> LogQueue
+    ensures { result ≡ other_queue queue }
+{
+    match queue {
+        LogQueue::Append => LogQueue::Rewrite,
+        LogQueue::Rewrite => LogQueue::Append,
+    }
+}
+
+// The pipe of this queue, and that of the other, as both.
+fn paired(first: LogQueue, one: SinglePipe, two: SinglePipe) -> DualPipes
+    requires one { one.queue ≡ first }
+    requires two { two.queue ≡ other_queue first }
+    ensures one { pipe_of result first ≡ one }
+    ensures two { pipe_of result (other_queue first) ≡ two }
+{
+    match first {
+        LogQueue::Append => DualPipes::open(one, two),
+        LogQueue::Rewrite => DualPipes::open(two, one),
+    }
+}
 
 impl DualPipesBuilder {
     /// Opens one queue as the settings say, with one worker.
@@ -54,12 +77,51 @@ impl DualPipesBuilder {
         self.open_queue(files, &config, machine)
     }
 
+    /// Opens one queue, and then the other.
+    fn open_both<F: FileSystem, M: ReplayMachine>(
+        &self,
+        files: &mut F,
+        first: LogQueue,
+        machine: &mut M,
+    ) -> Result<DualPipes, Error>
+        requires one { IsFoundBy self.now first (F.disk files.old) }
+        requires two { IsFoundBy self.now (other_queue first) (F.disk files.old) }
+        requires directories { directories_in self.now ≡ directories_of (settings_of self.now.config) }
+        ensures pipes { IfOk result (λ p. ArePipes p (F.disk files.new)) }
+        ensures opened { IfOk result (AreOpened self.now (F.disk files.old) (F.disk files.new)) }
+        ensures replayed { IfOk result (λ p. M.has_replayed machine.old [] → (ones : List Placed) × (twos : List Placed) × M.has_replayed machine.new (ones ++ twos)
+            × IsPipeWith (directories_in self.now) first (names_in self.now first) (F.disk files.old) (F.disk files.new) (pipe_of p first) ones
+            × IsPipeWith (directories_in self.now) (other_queue first) (names_in self.now (other_queue first)) (F.disk files.old) (F.disk files.new) (pipe_of p (other_queue first)) twos) }
+        ensures leaves { LeavesBoth self.now.config.recovery_mode self.now (F.disk files.old) (F.disk files.new) }
+        ensures refused { (queue : LogQueue) → CantBeOpened self.now.config.recovery_mode self.now queue (F.disk files.old) → IsErr result }
+        ensures corrupt { (f : CorruptionFault) → result ≡ Err (Corruption f) → (queue : LogQueue) × CantBeOpened self.now.config.recovery_mode self.now queue (F.disk files.old) }
+        ensures holes { M.has_replayed machine.old [] → IfOk result (HaveFewHoles self.now (F.disk files.old) (F.disk files.new)) }
+        ensures later { RefusesNoMore (F.is_bounded files.old) (F.is_bounded files.new) (F.meter files.old) (F.meter files.new) }
+        ensures cause { IfErr result (λ e. IsEitherFault self.now (F.disk files.old) (F.disk files.new) (F.is_bounded files.old) (F.meter files.old) (F.meter files.new) e) }
+    {
+        let one = self.open_alone(files, first, machine)?;
+        let two = self.open_alone(files, other_of(first), machine)?;
+        Ok(paired(first, one, two))
+    }
+
+    // The queue that is opened first.
+    fn first_queue(&self) -> LogQueue
+        ensures { (result ≡ Rewrite) ⊎ (names_in self.now result ≡ []) }
+    {
+        if self.append_file_names.is_empty() {
+            LogQueue::Append
+        } else {
+            LogQueue::Rewrite
+        }
+    }
+
     /// Recovers the files of both queues that `scan` found, with one worker, and opens the pipes
     /// over them (own; raft-engine's `recover` and `finish`). The rewrite queue comes first, so that
-    /// one machine replays its batches, and then those of the append queue, as they are read. So
-    /// the first file of a queue without files is made for it first, too. Errors are those of either
-    /// queue, and `Memory`. Refused or not, an opening that follows finds no other batches of either
-    /// queue than one before would have.
+    /// one machine replays its batches, and then those of the append queue, as they are read. But
+    /// where the append queue has no files, so that nothing of it is replayed, its first file is made
+    /// before those of the rewrite queue are opened. Errors are those of either queue, and `Memory`.
+    /// Refused or not, an opening that follows finds no other batches of either queue than one before
+    /// would have.
     pub fn recover_alone<F: FileSystem, M: ReplayMachine + Drop, T: Factory<M>>(
         &self,
         files: &mut F,
@@ -80,8 +142,8 @@ impl DualPipesBuilder {
         ensures taken { NothingRefuses (F.is_bounded files.old) (F.meter files.old) → AreTaken self.now (F.disk files.old) (F.disk files.new) result }
     {
         let mut machine = factory.new_target();
-        let rewrite = self.open_alone(files, LogQueue::Rewrite, &mut machine)?;
-        let append = self.open_alone(files, LogQueue::Append, &mut machine)?;
-        Ok((DualPipes::open(append, rewrite), machine))
+        let first = self.first_queue();
+        let pipes = self.open_both(files, first, &mut machine)?;
+        Ok((pipes, machine))
     }
 }
