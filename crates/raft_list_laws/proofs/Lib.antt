@@ -1,7 +1,7 @@
 pub mod Parts
 pub mod Keeping
-mod Fronts
-mod OwnEntries
-mod SetUps
+pub mod Fronts
+pub mod OwnEntries
+pub mod SetUps
 mod GoingOn
-mod Matching
+pub mod Matching
