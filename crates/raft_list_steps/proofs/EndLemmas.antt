@@ -1,9 +1,9 @@
 -- Where a leader's list ends, behind what it wrote.
-use Rattle.std.specs.Prelude.{◌≡◌, ◌⊎◌, ℕ, suc, ◌<◌, ◌≤◌, List, [], ◌∷◌, ◌++◌, length, slice_get, Option, Some, None, Contains, refl, unwrap_or}
+use Rattle.std.specs.Prelude.{◌≡◌, ◌⊎◌, ℕ, suc, ◌<◌, ◌≤◌, List, [], ◌∷◌, ◌++◌, length, slice_get, Option, Some, None, Contains, refl}
 use Rattle.std.proofs.Common.{inl, inr, sym, ap, ◌∙◌, subst, arith, ⊎_elim, length-append}
 use Rattle.std.proofs.lemmas.Bool.{cases_lt}
+use Rattle.raft_values.specs.declared.vote.Vote.{Vote}
 use Rattle.raft_values.specs.declared.log_id.LogId.{LogId}
-use Rattle.raft_state.specs.declared.entry.EntryPayload.TheVariants.{Blank}
 use Rattle.raft_group_step.specs.Values.{Entry, EntryPayload, Membership, entry_of}
 use Rattle.raft_laws.specs.GroupWorld.{GroupWorld, Led}
 use Rattle.raft_laws.proofs.BallotAgreement.{slice_get-append, slice_get_end}
@@ -13,10 +13,9 @@ use Rattle.raft_group_lists.specs.declared.notes.Noted.{Noted}
 use Rattle.raft_group_lists.specs.Notes.{EndsWith, IsNotedAt, IsWrittenAt, Notes, accounts_of, list_to}
 use Rattle.raft_list_steps.specs.declared.report.Leading.{Leading}
 use Rattle.raft_list_steps.specs.Lists.{HasFirst, IsKnown, IsListOf}
-use Rattle.raft_list_steps.specs.Reports.{IsGained, start_of, taken_over}
+use Rattle.raft_list_steps.specs.Reports.{IsGained, new_payload, start_of, taken_over}
 use Rattle.raft_list_steps.specs.Steps.{EndsAt, EndsElsewhere, IsEndOf, IsEndedAt, IsNext, StartsAt}
 use Rattle.raft_list_steps.proofs.ListFacts.{end_at, end_size, last_noted, none_ends, one_end}
-use Rattle.raft_list_steps.proofs.StartLemmas.{last_under}
 
 -- what stays as it was where one entry more is noted
 pub record IsWritten (s : Notes) (entry : Entry) (before : Option ℕ) (at : ℕ) (next : Notes) : Type 0 where
@@ -49,32 +48,34 @@ module _ (s : Notes) (entry : Entry) (before : Option ℕ) (at : ℕ) (next : No
       ⊎_elim (λ l. inl l) (λ l. let size = written_size in inr (omega (arith, is.noted.place))) (cases_lt k (length s.noted))
 
 module _ (leading : Leading) (written : Option EntryPayload) where
-  abbrev new_entry : Entry
-  new_entry = entry_of leading.last (unwrap_or written Blank)
+  abbrev new_entry : Notes → Entry
+  new_entry s = entry_of leading.last (new_payload ((accounts_of s).latest leading.vote) written)
 
   module _ (s : Notes) (w : GroupWorld) (l : Led) (next : IsNext leading written w l) (h : IsListOf s w) where
     abbrev start : List Entry
     start = start_of ((accounts_of s).latest l.vote) (taken_over l)
 
-    gained : IsGained start new_entry l.list
-    gained = next.told.gains ((accounts_of s).latest l.vote) (last_under s w h.truth l.vote)
+    gained : IsGained start (new_entry s) l.list
+    gained =
+        subst (λ (v : Vote ℕ). IsGained start (entry_of leading.last (new_payload ((accounts_of s).latest v) written)) l.list) next.told.vote
+        (next.told.gains (accounts_of s) w h.truth refl)
 
     -- a list whose start has the last log id already is its start
     nothing_new : EndsWith start leading.last → l.list ≡ start
     nothing_new ends =
         ⊎_elim
         (λ e. e)
-        (λ (e : l.list ≡ start ++ new_entry ∷ []).
+        (λ (e : l.list ≡ start ++ new_entry s ∷ []).
         let size = end_size start leading.last ends in
         let inside : length ends.before < length start = omega arith in
-        let early = ap (λ (xs : List Entry). slice_get xs (length ends.before)) e ∙ slice_get-append start (new_entry ∷ []) (length ends.before) inside ∙ end_at start leading.last ends in
-        let late = ap (λ (xs : List Entry). slice_get xs (length start)) e ∙ slice_get_end start new_entry in
-        let one = next.agree l l (last_noted w l) (last_noted w l) (length ends.before) (length start) ends.last new_entry early late ends.of_id in
+        let early = ap (λ (xs : List Entry). slice_get xs (length ends.before)) e ∙ slice_get-append start (new_entry s ∷ []) (length ends.before) inside ∙ end_at start leading.last ends in
+        let late = ap (λ (xs : List Entry). slice_get xs (length start)) e ∙ slice_get_end start (new_entry s) in
+        let one = next.agree l l (last_noted w l) (last_noted w l) (length ends.before) (length start) ends.last (new_entry s) early late ends.of_id in
         absurd (omega (arith, one.0)))
         gained
 
     -- a list whose start doesn't end so has one entry more
-    one_more : ((l.list ≡ start) → ⊥) → l.list ≡ start ++ new_entry ∷ []
+    one_more : ((l.list ≡ start) → ⊥) → l.list ≡ start ++ new_entry s ∷ []
     one_more differs = ⊎_elim (λ e. absurd (differs e)) (λ e. e) gained
 
   pub ends_at_start : (s : Notes) (begin : Option ℕ) (at : ℕ) → IsEndedAt s leading.last begin at → StartsAt s leading begin → EndsAt s leading written at s
@@ -89,25 +90,25 @@ module _ (leading : Leading) (written : Option EntryPayload) where
         first = h.first;
       }
 
-  pub ends_behind : (s : Notes) (before : Option ℕ) (at : ℕ) (more : Notes) → IsWritten s new_entry before at more → EndsElsewhere s leading.last before → StartsAt s leading before → EndsAt s leading written at more
+  pub ends_behind : (s : Notes) (before : Option ℕ) (at : ℕ) (more : Notes) → IsWritten s (new_entry s) before at more → EndsElsewhere s leading.last before → StartsAt s leading before → EndsAt s leading written at more
   ends_behind s before at more is differs starts w l next h =
       let here = starts written w l next h in
       let other : (o : Option ℕ) → o ≡ before → l.list ≡ list_to s.noted o → ⊥ = not_there in
-      let whole : l.list ≡ list_to s.noted before ++ new_entry ∷ [] =
-      one_more s w l next h (λ e. other before refl (e ∙ sym here)) ∙ ap (λ (xs : List Entry). xs ++ new_entry ∷ []) (sym here)
+      let whole : l.list ≡ list_to s.noted before ++ new_entry s ∷ [] =
+      one_more s w l next h (λ e. other before refl (e ∙ sym here)) ∙ ap (λ (xs : List Entry). xs ++ new_entry s ∷ []) (sym here)
       in
       let same : list_to more.noted (Some at) ≡ l.list = is.list ∙ sym whole in
       record {
         truth = is.truth w h.truth;
-        within = written_within s new_entry before at more is;
+        within = written_within s (new_entry s) before at more is;
         list = same;
-        noted = written_noted s new_entry before at more is;
+        noted = written_noted s (new_entry s) before at more is;
         known = λ k less.
             ⊎_elim
             (λ old. inl (subst (IsKnown w) (sym (is.others k old)) (h.known k old)))
             (λ e. inr (ap (λ (n : ℕ). list_to more.noted (Some n)) e ∙ same))
-            (written_cases s new_entry before at more is k less);
-        first = λ m e. written_first s new_entry before at more is m (h.first m e);
+            (written_cases s (new_entry s) before at more is k less);
+        first = λ m e. written_first s (new_entry s) before at more is m (h.first m e);
       }
     where
       not_there : (o : Option ℕ) → o ≡ before → l.list ≡ list_to s.noted o → ⊥

@@ -25,7 +25,7 @@ use Rattle.raft_group_lists.specs.Notes.{Notes, accounts_of, list_to}
 use Rattle.raft_list_steps.specs.declared.report.GroupReport.{GroupReport}
 use Rattle.raft_list_steps.specs.declared.report.Leading.{Leading}
 use Rattle.raft_list_steps.specs.Lists.{HasFirst, IsKnown, IsLedFront, IsListOf, IsSetUpAlone}
-use Rattle.raft_list_steps.specs.Reports.{Hears, IsBehind, IsHeard, IsLastUnder, IsLeadOf, IsReportOf, SaysLead, first_setup}
+use Rattle.raft_list_steps.specs.Reports.{Hears, IsBehind, IsHeard, IsLeadOf, IsReportOf, SaysLead, first_setup}
 use Rattle.raft_list_steps.specs.Steps.{Accepts, AreNext, IsNext, IsUnled, ListsAgree, MayLead, SetsUp, with_first, with_messages, with_notes}
 use Rattle.raft_list_steps.proofs.ListFacts.{last_noted}
 use Rattle.raft_list_steps.proofs.MessageLemmas.{fronts_before_all, with_messages_led, with_messages_sent, with_messages_setup}
@@ -185,8 +185,8 @@ module _ (ids : List ℕ) (rs : List Recorded) (w w₁ w' : GroupWorld) (h : IsG
       record {
         vote = told.vote;
         last = told.last;
-        base = λ list under. told.base list (subst (λ (ls : List Led). IsLastUnder ls l.vote list) led under);
-        gains = λ list under. told.gains list (subst (λ (ls : List Led). IsLastUnder ls l.vote list) led under);
+        base = λ a v t same. told.base a v t (same ∙ led);
+        gains = λ a v t same. told.gains a v t (same ∙ led);
         taken =
             ⊎_elim (λ short. inl short)
             (λ k. inr (record { led = k.led; among = subst (λ (ls : List Led). Contains ls k.led) (sym led) k.among; front = k.front })) told.taken;

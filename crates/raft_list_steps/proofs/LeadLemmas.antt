@@ -1,9 +1,8 @@
 -- A leader is noted with its list.
-use Rattle.std.specs.Prelude.{◌≡◌, ◌⊎◌, ℕ, ◌<◌, List, [], ◌∷◌, ◌++◌, length, slice_get, Option, Some, None, Contains, refl, unwrap_or}
+use Rattle.std.specs.Prelude.{◌≡◌, ◌⊎◌, ℕ, ◌<◌, List, [], ◌∷◌, ◌++◌, length, slice_get, Option, Some, None, Contains, refl}
 use Rattle.std.proofs.Common.{inl, inr, sym, ap, ◌∙◌, subst, arith, ⊎_elim}
 use Rattle.raft_values.specs.declared.vote.Vote.{Vote}
 use Rattle.raft_values.specs.declared.log_id.LogId.{LogId}
-use Rattle.raft_state.specs.declared.entry.EntryPayload.TheVariants.{Blank}
 use Rattle.raft_group_step.specs.Values.{Entry, EntryPayload, Membership, entry_of}
 use Rattle.raft_laws.specs.BallotLists.{AgreeBelow}
 use Rattle.raft_laws.specs.GroupWorld.{GroupWorld, Led}
@@ -15,10 +14,9 @@ use Rattle.raft_group_lists.specs.Facts.{IsNoteOf, OwnComeLast}
 use Rattle.raft_group_lists.specs.Notes.{IsNotedAt, Notes, accounts_of, list_to}
 use Rattle.raft_list_steps.specs.declared.report.Leading.{Leading}
 use Rattle.raft_list_steps.specs.Lists.{HasFirst, IsKnown, IsListOf}
-use Rattle.raft_list_steps.specs.Reports.{IsGained, start_of, taken_over}
+use Rattle.raft_list_steps.specs.Reports.{IsGained, new_payload, start_of, taken_over}
 use Rattle.raft_list_steps.specs.Steps.{AreNext, EndsAt, IsEndOf, IsNext, Leads, MayLead, with_notes}
 use Rattle.raft_list_steps.proofs.ListFacts.{last_noted, still_noted}
-use Rattle.raft_list_steps.proofs.StartLemmas.{last_under}
 
 -- a list that goes on from its start goes on from what was noted last
 gained_goes_on : (list taken : List Entry) (e : Entry) (next : List Entry) → IsGained (start_of list taken) e next → AgreeBelow (length list) list next
@@ -40,7 +38,7 @@ module _ (s : Notes) (node : ℕ) (leading : Leading) (written : Option EntryPay
 
   pub is_note : l.node ≡ node → IsNoteOf s node leading.vote at l
   is_note of_node =
-      let goes = gained_goes_on ((accounts_of s).latest l.vote) (taken_over l) (entry_of leading.last (unwrap_or written Blank)) l.list (next.told.gains ((accounts_of s).latest l.vote) (last_under s w e.truth l.vote)) in
+      let goes = gained_goes_on ((accounts_of s).latest l.vote) (taken_over l) (entry_of leading.last (new_payload ((accounts_of s).latest l.vote) written)) l.list (next.told.gains (accounts_of s) w e.truth refl) in
       record {
         of_node = of_node;
         of_vote = next.told.vote;

@@ -1,9 +1,10 @@
 -- Where a leader's list goes on from is noted.
-use Rattle.std.specs.Prelude.{◌≡◌, ◌⊎◌, ⊤, ℕ, suc, ◌<◌, ◌≤◌, List, [], ◌∷◌, ◌++◌, length, slice_get, Option, Some, None, MatchOption, Contains, refl}
+use Rattle.std.specs.Prelude.{◌≡◌, ◌⊎◌, ⊤, ℕ, suc, ◌<◌, ◌≤◌, List, [], ◌∷◌, ◌++◌, length, slice_get, Option, Some, None, MatchOption, Contains, refl, unwrap_or}
 use Rattle.std.proofs.Common.{inl, inr, sym, ap, ◌∙◌, subst, arith, ⊎_elim}
 use Rattle.std.proofs.lemmas.Option.{slice_get_within}
 use Rattle.raft_values.specs.declared.vote.Vote.{Vote}
 use Rattle.raft_values.specs.declared.log_id.LogId.{LogId}
+use Rattle.raft_state.specs.declared.entry.EntryPayload.TheVariants.{Blank}
 use Rattle.raft_group_step.specs.Values.{Entry, EntryPayload, Membership}
 use Rattle.raft_laws.specs.BallotLists.{AgreeBelow}
 use Rattle.raft_laws.specs.GroupWorld.{GroupWorld, Led}
@@ -13,21 +14,17 @@ use Rattle.raft_list_laws.specs.Changes.{with_note}
 use Rattle.raft_group_lists.specs.Notes.{EndsWith, HasNoId, IsEnded, IsNotedAt, IsWithin, Notes, accounts_of, count_to, last_in, lead_in, list_to}
 use Rattle.raft_list_steps.specs.declared.report.Leading.{Leading}
 use Rattle.raft_list_steps.specs.Lists.{HasFirst, IsListOf, setup_entry}
-use Rattle.raft_list_steps.specs.Reports.{HasLast, IsLastUnder, start_of, taken_over}
+use Rattle.raft_list_steps.specs.Reports.{HasLast, new_payload, start_of, taken_over}
 use Rattle.raft_list_steps.specs.Steps.{IsNext, StartsAt}
 use Rattle.raft_list_steps.proofs.ListFacts.{end_at, end_size, entry_noted, known_front, last_noted, none_ends, one_front, own_front}
-
--- true accounts keep under a vote the list with which its leader was noted last
-pub last_under : (s : Notes) (w : GroupWorld) → AreTrue (accounts_of s) w → (vote : Vote ℕ) → IsLastUnder w.led vote ((accounts_of s).latest vote)
-last_under s w t vote =
-    record {
-      noted = ⊎_elim (λ e. inl e) (λ x. inr (x.0, x.1, x.2, x.3)) (t.notes.noted vote);
-      all = λ l c of_vote. subst (λ (v : Vote ℕ). AgreeBelow (length l.list) l.list ((accounts_of s).latest v)) of_vote (t.notes.latest l c);
-    }
 
 pub start_more : (list taken : List Entry) → (list ≡ [] → ⊥) → start_of list taken ≡ list
 start_more [] taken some = absurd (some refl)
 start_more (e ∷ es) taken some = refl
+
+pub payload_more : (list : List Entry) (written : Option EntryPayload) → (list ≡ [] → ⊥) → unwrap_or written Blank ≡ new_payload list written
+payload_more [] written some = absurd (some refl)
+payload_more (e ∷ es) written some = refl
 
 module _ (s : Notes) (leading : Leading) where
   -- what its leader was noted with
@@ -47,7 +44,7 @@ module _ (s : Notes) (leading : Leading) where
       starts = ap (λ (xs : List Entry). start_of xs (taken_over l)) none_here
 
       base : HasLast (taken_over l) leading.base
-      base = next.told.base ((accounts_of s).latest l.vote) (last_under s w h.truth l.vote) none_here
+      base = next.told.base (accounts_of s) w h.truth refl none_here
 
       taken_front : AgreeBelow (length (taken_over l)) (taken_over l) l.list
       taken_front = own_front l.vote.leader_id l.list

@@ -12,6 +12,7 @@ use Rattle.raft_laws.specs.GroupWorld.{GroupWorld, Led, Outcome, Recorded}
 use Rattle.raft_laws.specs.GroupRun.{At, Replays, led_after, scene_of, sent_in, setup_after}
 use Rattle.raft_laws.specs.NodeEvent.{NodeEvent}
 use Rattle.raft_laws.specs.OneList.{IsGroupHistory}
+use Rattle.raft_list_laws.specs.Accounts.{Accounts, AreTrue}
 use Rattle.raft_group_lists.specs.Notes.{EndsWith, Notes, accounts_of}
 use Rattle.raft_group_lists.specs.Facts.{accepted_in}
 use Rattle.raft_list_steps.specs.declared.report.Acceptance.{Acceptance}
@@ -47,11 +48,6 @@ said_accepted (Some accepted) = (accepted.vote, accepted.last) ∷ []
 
 -- ---- the note of a leader
 
--- the list with which the vote's leader was noted last; nothing where it never was
-pub record IsLastUnder (led : List Led) (vote : Vote ℕ) (list : List Entry) : Type 0 where
-  pub noted : (list ≡ []) ⊎ ((l : Led) × Contains led l × (l.vote ≡ vote) × (l.list ≡ list))
-  pub all : (l : Led) → Contains led l → l.vote ≡ vote → AgreeBelow (length l.list) l.list list
-
 -- the entries up to the leader's first own one
 abbrev pub before_own : LeaderId ℕ → List Entry → List Entry
 before_own leader [] = []
@@ -66,6 +62,11 @@ abbrev pub start_of : List Entry → List Entry → List Entry
 start_of [] taken = taken
 start_of (e ∷ es) taken = e ∷ es
 
+-- what a new entry asks for: what the event writes, or nothing, as with the first own entry of each leader
+abbrev pub new_payload : List Entry → Option EntryPayload → EntryPayload
+new_payload [] written = Blank
+new_payload (e ∷ es) written = unwrap_or written Blank
+
 -- the list goes on from its start with one entry, or it is its start
 abbrev pub IsGained : List Entry → Entry → List Entry → Type 0
 IsGained start e list = (list ≡ start) ⊎ (list ≡ start ++ e ∷ [])
@@ -74,15 +75,15 @@ IsGained start e list = (list ≡ start) ⊎ (list ≡ start ++ e ∷ [])
 abbrev pub HasLast : List Entry → Option (LogId ℕ) → Type 0
 HasLast list last = MatchOption last (list ≡ []) (λ id. EndsWith list id)
 
--- what a leader tells of its list is so, and with what it wrote the list goes on
+-- what a leader tells of its list is so, by accounts of the notes before this one
 pub record IsLeadOf (leading : Leading) (written : Option EntryPayload) (w w' : GroupWorld) (l : Led) : Type 0 where
   pub vote : l.vote ≡ leading.vote
   pub last : EndsWith l.list leading.last
   -- a leader that wasn't noted before took over all up to this log id
-  pub base : (list : List Entry) → IsLastUnder w.led l.vote list → list ≡ [] → HasLast (taken_over l) leading.base
-  -- its list has one entry at most that is new: what the event writes, or a blank one
-  pub gains : (list : List Entry) → IsLastUnder w.led l.vote list
-      → IsGained (start_of list (taken_over l)) (entry_of leading.last (unwrap_or written Blank)) l.list
+  pub base : (a : Accounts) (v : GroupWorld) → AreTrue a v → v.led ≡ w.led → a.latest l.vote ≡ [] → HasLast (taken_over l) leading.base
+  -- its list has one new entry at most
+  pub gains : (a : Accounts) (v : GroupWorld) → AreTrue a v → v.led ≡ w.led
+      → IsGained (start_of (a.latest l.vote) (taken_over l)) (entry_of leading.last (new_payload (a.latest l.vote) written)) l.list
   -- what it took over another leader was noted with before, or it is the set-up's entry alone, or nothing
   pub taken : (length (taken_over l) ≤ 1) ⊎ IsLedFront w (taken_over l)
   -- the set-up's entry is the first

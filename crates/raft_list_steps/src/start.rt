@@ -1,12 +1,13 @@
 //! Where a leader's list goes on from, and where it ends.
-ghost use Rattle.std.specs.Prelude.{◌<◌, length, MatchOption};
-ghost use Rattle.raft_group_lists.specs.Notes.{IsWithin};
+ghost use Rattle.std.specs.Prelude.{◌≡◌, ◌<◌, length, MatchOption};
+ghost use Rattle.raft_group_lists.specs.Notes.{IsWithin, accounts_of};
 ghost use Rattle.raft_group_lists.specs.Room.{HasRoom};
+ghost use Rattle.raft_list_steps.specs.Reports.{new_payload};
 ghost use Rattle.raft_list_steps.specs.Steps.{EndsAt, EndsElsewhere, IsEndedAt, StartsAt};
 
 use crate::report::Leading;
 use raft_group_lists::GroupList;
-use raft_state::{BasicNode, Bytes, Entry, EntryPayload};
+use raft_state::{BasicNode, Bytes, Entry, EntryPayload, Vote};
 
 // Where the list is noted from which the leader's goes on: what it was noted with last, or what it took over.
 fn start_of(list: &GroupList, leading: &Leading) -> Option<usize>
@@ -39,6 +40,20 @@ fn ended_at(list: &GroupList, leading: &Leading, start: Option<usize>) -> Option
     }
 }
 
+// What a new entry of the list under the vote asks for: a leader that wasn't noted before begins with a blank one.
+fn payload_of(
+    list: &GroupList,
+    vote: &Vote<u64>,
+    written: Option<EntryPayload<u64, BasicNode, Bytes>>,
+) -> EntryPayload<u64, BasicNode, Bytes>
+    ensures { result ≡ new_payload ((accounts_of list.now.notes).latest vote.now) written }
+{
+    match list.last_of(vote) {
+        Some(_at) => written.unwrap_or(EntryPayload::Blank),
+        None => EntryPayload::Blank,
+    }
+}
+
 // Where the leader's list ends: one entry is written, if the list has a new one.
 pub(crate) fn end_of(
     list: &mut GroupList,
@@ -56,7 +71,7 @@ pub(crate) fn end_of(
     }
     let entry = Entry {
         log_id: leading.last,
-        payload: written.unwrap_or(EntryPayload::Blank),
+        payload: payload_of(list, &leading.vote, written),
     };
     match list.write(entry, start) {
         Ok(at) => at,

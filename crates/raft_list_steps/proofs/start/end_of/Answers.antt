@@ -14,9 +14,9 @@ returns-clause-ends c =
     let leading = c.args.leading.now in
     let start = c.start_of-start.result in
     let next = c.write.new.self.notes in
-    let whole : IsWritten s (entry_of leading.last c.unwrap_or.result) start c.in-Ok.at next =
+    let whole : IsWritten s (entry_of leading.last c.payload_of.result) start c.in-Ok.at next =
     record { truth = c.write.ensures.truth; list = c.in-Ok.ensures.list; others = c.write.ensures.others; noted = c.in-Ok.ensures.noted }
     in
     ends_behind leading c.args.written s start c.in-Ok.at next
-    (subst (λ (p : EntryPayload). IsWritten s (entry_of leading.last p) start c.in-Ok.at next) c.unwrap_or.ensures whole)
+    (subst (λ (p : EntryPayload). IsWritten s (entry_of leading.last p) start c.in-Ok.at next) c.payload_of.ensures whole)
     c.in_default.ensures c.start_of-start.ensures.start
