@@ -5,4 +5,4 @@ mod KeepLemmas
 mod SetLemmas
 mod TruthLemmas
 mod RoomLemmas
-mod MessageLemmas
+pub mod MessageLemmas

@@ -188,3 +188,22 @@ pub record IsNotedAt (noted : List Noted) (id : LogId ℕ) (at : ℕ) : Type 0 w
 -- none is noted
 abbrev pub HasNoId : List Noted → LogId ℕ → Type 0
 HasNoId noted id = (at : ℕ) → IsNotedAt noted id at → ⊥
+
+-- ---- what is written
+
+-- one entry more is noted, behind the others
+pub record IsWrittenAt (noted : List Noted) (entry : Entry) (at : ℕ) (more : List Noted) : Type 0 where
+  pub one : Noted
+  pub of_entry : one.entry ≡ entry
+  pub place : at ≡ length noted
+  pub behind : more ≡ noted ++ one ∷ []
+
+-- the last entry of the list has this log id
+pub record EndsWith (list : List Entry) (id : LogId ℕ) : Type 0 where
+  pub before : List Entry
+  pub last : Entry
+  pub is : list ≡ before ++ last ∷ []
+  pub of_id : last.log_id ≡ id
+
+abbrev pub IsEnded : List Entry → Type 0
+IsEnded list = (id : LogId ℕ) × EndsWith list id

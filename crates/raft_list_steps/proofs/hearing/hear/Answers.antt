@@ -1,0 +1,7 @@
+use Rattle.raft_list_steps.proofs.EventLemmas.{hears}
+use Rattle.raft_list_steps.proofs.hearing.hear.Goals as goal
+
+pub returns : goal.returns
+returns c =
+    hears c.args.list.now.notes c.hear_set_up.new.list.notes c.hear_lead.new.list.notes c.hear_acceptance.new.list.notes c.args.report
+    c.hear_set_up.ensures.truth c.hear_lead.ensures.truth c.hear_acceptance.ensures

@@ -1,0 +1,11 @@
+//! The list of a group behind an event, by what is heard of the event.
+#![tactic(auto)]
+
+mod events;
+mod hearing;
+mod report;
+mod start;
+
+pub use events::list_behind;
+pub use hearing::hear;
+pub use report::{Acceptance, GroupReport, Leading, SetUp};
