@@ -138,6 +138,10 @@ accounts_of s =
 abbrev pub notes_of : List (List ℕ) → List Noted → List Lead → List ℕ → Notes
 notes_of voters noted leads listed = record { voters = voters; noted = noted; leads = leads; listed = listed }
 
+-- nothing is noted
+abbrev pub no_notes : Notes
+no_notes = notes_of [] [] [] []
+
 -- where the leader's list ends, by what is said of it and by what was noted
 abbrev pub end_or : Option ℕ → Option ℕ → Option ℕ
 end_or None known = known

@@ -6,7 +6,7 @@ ghost use Rattle.raft_group_step.specs.Message.{Message};
 ghost use Rattle.raft_laws.specs.GroupWorld.{GroupWorld, Led, new_world};
 ghost use Rattle.raft_list_laws.specs.Accounts.{AreTrue, PartsAreFronts};
 ghost use Rattle.raft_list_laws.specs.Changes.{with_message, with_note, with_setup};
-ghost use Rattle.raft_group_lists.specs.Notes.{EndsWith, HasNoId, IsEnded, IsNotedAt, IsWithin, IsWrittenAt, accounts_of, list_to};
+ghost use Rattle.raft_group_lists.specs.Notes.{EndsWith, HasNoId, IsEnded, IsNotedAt, IsWithin, IsWrittenAt, accounts_of, list_to, no_notes};
 ghost use Rattle.raft_group_lists.specs.Facts.{AcceptsUpTo, IsNoteOf, own_place};
 ghost use Rattle.raft_group_lists.specs.Room.{HasRoom};
 
@@ -60,6 +60,7 @@ impl GroupList {
     pub fn new(alloc: Global) -> GroupList
         ensures truth { (ids : List ℕ) → AreTrue (accounts_of result.notes) (new_world ids) }
         ensures noted { result.notes.noted ≡ [] }
+        ensures notes { result.notes ≡ no_notes }
     {
         GroupList {
             alloc,

@@ -1,6 +1,6 @@
 //! What words say.
 
-use raft_list_steps::{Acceptance, GroupReport, Leading, SetUp};
+use raft_list_steps::{Acceptance, Base, GroupReport, Leading, SetUp};
 use raft_rows::number;
 use raft_state::{
     BasicNode, Bytes, EntryPayload, IdSet, LeaderId, LogId, Membership, NodeMap, Vote, VoterGroups,
@@ -43,8 +43,8 @@ fn set_up(alloc: Global, word: &str) -> Result<SetUp, AllocError> {
 fn leader(word: &str) -> Leading {
     Leading {
         vote: vote(word),
-        last: LogId::new(LeaderId::new(0, 0), 0),
-        base: None,
+        last: None,
+        base: Base::Nothing,
     }
 }
 
@@ -73,12 +73,12 @@ fn with_word(
         "accepts" => report.accepted = Some(acceptance(value)),
         "last" => {
             if let Some(leading) = &mut report.leading {
-                leading.last = log_id(value);
+                leading.last = Some(log_id(value));
             }
         }
         "base" => {
             if let Some(leading) = &mut report.leading {
-                leading.base = Some(log_id(value));
+                leading.base = Base::UpTo(log_id(value));
             }
         }
         _ => report.node = number(name),

@@ -11,9 +11,10 @@ use Rattle.raft_list_laws.specs.Accounts.{AreTrue}
 use Rattle.raft_list_laws.specs.Changes.{with_note}
 use Rattle.raft_group_lists.specs.declared.notes.Noted.{Noted}
 use Rattle.raft_group_lists.specs.Notes.{EndsWith, IsNotedAt, IsWrittenAt, Notes, accounts_of, list_to}
-use Rattle.raft_list_steps.specs.declared.report.Leading.{Leading}
+use Rattle.raft_list_facts.specs.declared.leading.Leading.{Leading}
 use Rattle.raft_list_steps.specs.Lists.{HasFirst, IsKnown, IsListOf}
-use Rattle.raft_list_steps.specs.Reports.{IsGained, new_payload, start_of, taken_over}
+use Rattle.raft_list_laws.specs.Bases.{base_of}
+use Rattle.raft_list_steps.specs.Reports.{HasLast, IsGained, new_payload, start_of}
 use Rattle.raft_list_steps.specs.Steps.{EndsAt, EndsElsewhere, IsEndOf, IsEndedAt, IsNext, StartsAt}
 use Rattle.raft_list_steps.proofs.ListFacts.{end_at, end_size, last_noted, none_ends, one_end}
 
@@ -47,28 +48,28 @@ module _ (s : Notes) (entry : Entry) (before : Option ℕ) (at : ℕ) (next : No
   written_cases k less =
       ⊎_elim (λ l. inl l) (λ l. let size = written_size in inr (omega (arith, is.noted.place))) (cases_lt k (length s.noted))
 
-module _ (leading : Leading) (written : Option EntryPayload) where
+module _ (leading : Leading) (last : LogId ℕ) (is_last : leading.last ≡ Some last) (written : Option EntryPayload) where
   abbrev new_entry : Notes → Entry
-  new_entry s = entry_of leading.last (new_payload ((accounts_of s).latest leading.vote) written)
+  new_entry s = entry_of last (new_payload ((accounts_of s).latest leading.vote) written)
 
   module _ (s : Notes) (w : GroupWorld) (l : Led) (next : IsNext leading written w l) (h : IsListOf s w) where
     abbrev start : List Entry
-    start = start_of ((accounts_of s).latest l.vote) (taken_over l)
+    start = start_of ((accounts_of s).latest l.vote) (base_of l)
 
     gained : IsGained start (new_entry s) l.list
     gained =
-        subst (λ (v : Vote ℕ). IsGained start (entry_of leading.last (new_payload ((accounts_of s).latest v) written)) l.list) next.told.vote
-        (next.told.gains (accounts_of s) w h.truth refl)
+        subst (λ (v : Vote ℕ). IsGained start (entry_of last (new_payload ((accounts_of s).latest v) written)) l.list) next.told.vote
+        (next.told.gains (accounts_of s) w h.truth refl last is_last)
 
     -- a list whose start has the last log id already is its start
-    nothing_new : EndsWith start leading.last → l.list ≡ start
+    nothing_new : EndsWith start last → l.list ≡ start
     nothing_new ends =
         ⊎_elim
         (λ e. e)
         (λ (e : l.list ≡ start ++ new_entry s ∷ []).
-        let size = end_size start leading.last ends in
+        let size = end_size start last ends in
         let inside : length ends.before < length start = omega arith in
-        let early = ap (λ (xs : List Entry). slice_get xs (length ends.before)) e ∙ slice_get-append start (new_entry s ∷ []) (length ends.before) inside ∙ end_at start leading.last ends in
+        let early = ap (λ (xs : List Entry). slice_get xs (length ends.before)) e ∙ slice_get-append start (new_entry s ∷ []) (length ends.before) inside ∙ end_at start last ends in
         let late = ap (λ (xs : List Entry). slice_get xs (length start)) e ∙ slice_get_end start (new_entry s) in
         let one = next.agree l l (last_noted w l) (last_noted w l) (length ends.before) (length start) ends.last (new_entry s) early late ends.of_id in
         absurd (omega (arith, one.0)))
@@ -78,19 +79,19 @@ module _ (leading : Leading) (written : Option EntryPayload) where
     one_more : ((l.list ≡ start) → ⊥) → l.list ≡ start ++ new_entry s ∷ []
     one_more differs = ⊎_elim (λ e. absurd (differs e)) (λ e. e) gained
 
-  pub ends_at_start : (s : Notes) (begin : Option ℕ) (at : ℕ) → IsEndedAt s leading.last begin at → StartsAt s leading begin → EndsAt s leading written at s
+  pub ends_at_start : (s : Notes) (begin : Option ℕ) (at : ℕ) → IsEndedAt s last begin at → StartsAt s leading begin → EndsAt s leading last written at s
   ends_at_start s begin at e starts w l next h =
       let here = ap (list_to s.noted) (sym e.there) ∙ starts written w l next h in
       record {
         truth = h.truth;
         within = e.within;
-        list = here ∙ sym (nothing_new s w l next h (subst (λ (xs : List Entry). EndsWith xs leading.last) here e.ends));
+        list = here ∙ sym (nothing_new s w l next h (subst (λ (xs : List Entry). EndsWith xs last) here e.ends));
         noted = e.noted;
         known = λ k less. inl (h.known k less);
         first = h.first;
       }
 
-  pub ends_behind : (s : Notes) (before : Option ℕ) (at : ℕ) (more : Notes) → IsWritten s (new_entry s) before at more → EndsElsewhere s leading.last before → StartsAt s leading before → EndsAt s leading written at more
+  pub ends_behind : (s : Notes) (before : Option ℕ) (at : ℕ) (more : Notes) → IsWritten s (new_entry s) before at more → EndsElsewhere s last before → StartsAt s leading before → EndsAt s leading last written at more
   ends_behind s before at more is differs starts w l next h =
       let here = starts written w l next h in
       let other : (o : Option ℕ) → o ≡ before → l.list ≡ list_to s.noted o → ⊥ = not_there in
@@ -111,6 +112,9 @@ module _ (leading : Leading) (written : Option EntryPayload) where
         first = λ m e. written_first s (new_entry s) before at more is m (h.first m e);
       }
     where
+      ends_so : EndsWith l.list last
+      ends_so = subst (HasLast l.list) is_last next.told.last
+
       not_there : (o : Option ℕ) → o ≡ before → l.list ≡ list_to s.noted o → ⊥
-      not_there None e is_it = none_ends l.list leading.last next.told.last is_it
-      not_there (Some k) e is_it = differs k (sym e) (subst (λ (xs : List Entry). EndsWith xs leading.last) is_it next.told.last)
+      not_there None e is_it = none_ends l.list last ends_so is_it
+      not_there (Some k) e is_it = differs k (sym e) (subst (λ (xs : List Entry). EndsWith xs last) is_it ends_so)

@@ -23,7 +23,7 @@ use Rattle.raft_list_laws.proofs.OwnEntries.{own_entries_come_last}
 use Rattle.raft_list_laws.proofs.SetUps.{nobody_led_before}
 use Rattle.raft_group_lists.specs.Notes.{Notes, accounts_of, list_to}
 use Rattle.raft_list_steps.specs.declared.report.GroupReport.{GroupReport}
-use Rattle.raft_list_steps.specs.declared.report.Leading.{Leading}
+use Rattle.raft_list_facts.specs.declared.leading.Leading.{Leading}
 use Rattle.raft_list_steps.specs.Lists.{HasFirst, IsKnown, IsLedFront, IsListOf, IsSetUpAlone}
 use Rattle.raft_list_steps.specs.Reports.{Hears, IsBehind, IsHeard, IsLeadOf, IsReportOf, SaysLead, first_setup}
 use Rattle.raft_list_steps.specs.Steps.{Accepts, AreNext, IsNext, IsUnled, ListsAgree, MayLead, SetsUp, with_first, with_messages, with_notes}
@@ -117,11 +117,11 @@ notes_messages : (w : GroupWorld) (ls : List Led) → (with_notes w ls).messages
 notes_messages w [] = refl
 notes_messages w (l ∷ ls) = notes_messages (with_note w l) ls
 
-abbrev at_nodes : (ℕ → NodeState) → GroupWorld → GroupWorld
+abbrev pub at_nodes : (ℕ → NodeState) → GroupWorld → GroupWorld
 at_nodes nodes w = record w { nodes = nodes }
 
 -- what is noted of a world says nothing of its nodes
-list_at_nodes : (s : Notes) (w : GroupWorld) (nodes : ℕ → NodeState) → IsListOf s w → IsListOf s (at_nodes nodes w)
+pub list_at_nodes : (s : Notes) (w : GroupWorld) (nodes : ℕ → NodeState) → IsListOf s w → IsListOf s (at_nodes nodes w)
 list_at_nodes s w nodes h =
     let n = h.truth.notes in
     record {
@@ -137,7 +137,7 @@ list_at_nodes s w nodes h =
         (λ k. inr (record { membership = k.membership; set_up = k.set_up; alone = k.alone }))
         known
 
-same_but_nodes : (x y : GroupWorld) → x.messages ≡ y.messages → x.setup ≡ y.setup → x.led ≡ y.led → y ≡ at_nodes y.nodes x
+pub same_but_nodes : (x y : GroupWorld) → x.messages ≡ y.messages → x.setup ≡ y.setup → x.led ≡ y.led → y ≡ at_nodes y.nodes x
 same_but_nodes x y messages setup led =
     let world : List Message → Option Membership → List Led → GroupWorld = λ ms s ls. record { nodes = y.nodes; messages = ms; setup = s; led = ls } in
     sym (ap (λ (ms : List Message). world ms x.setup x.led) messages ∙ ap₂ (λ (s : Option Membership) (ls : List Led). world y.messages s ls) setup led)
@@ -186,7 +186,7 @@ module _ (ids : List ℕ) (rs : List Recorded) (w w₁ w' : GroupWorld) (h : IsG
         vote = told.vote;
         last = told.last;
         base = λ a v t same. told.base a v t (same ∙ led);
-        gains = λ a v t same. told.gains a v t (same ∙ led);
+        gains = λ a v t same last is. told.gains a v t (same ∙ led) last is;
         taken =
             ⊎_elim (λ short. inl short)
             (λ k. inr (record { led = k.led; among = subst (λ (ls : List Led). Contains ls k.led) (sym led) k.among; front = k.front })) told.taken;

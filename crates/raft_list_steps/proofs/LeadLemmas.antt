@@ -11,10 +11,11 @@ use Rattle.raft_list_laws.specs.Accounts.{AreTrue, PartsAreFronts}
 use Rattle.raft_list_laws.specs.Changes.{with_note}
 use Rattle.raft_group_lists.specs.declared.notes.Noted.{Noted}
 use Rattle.raft_group_lists.specs.Facts.{IsNoteOf, OwnComeLast}
-use Rattle.raft_group_lists.specs.Notes.{IsNotedAt, Notes, accounts_of, list_to}
-use Rattle.raft_list_steps.specs.declared.report.Leading.{Leading}
-use Rattle.raft_list_steps.specs.Lists.{HasFirst, IsKnown, IsListOf}
-use Rattle.raft_list_steps.specs.Reports.{IsGained, new_payload, start_of, taken_over}
+use Rattle.raft_group_lists.specs.Notes.{EndsWith, IsNotedAt, Notes, accounts_of, list_to}
+use Rattle.raft_list_facts.specs.declared.leading.Leading.{Leading}
+use Rattle.raft_list_steps.specs.Lists.{HasFirst, IsKnown, IsListOf, setup_entry}
+use Rattle.raft_list_laws.specs.Bases.{base_of}
+use Rattle.raft_list_steps.specs.Reports.{HasLast, IsGained, new_payload, start_of}
 use Rattle.raft_list_steps.specs.Steps.{AreNext, EndsAt, IsEndOf, IsNext, Leads, MayLead, with_notes}
 use Rattle.raft_list_steps.proofs.ListFacts.{last_noted, still_noted}
 
@@ -27,18 +28,18 @@ gained_goes_on (x ∷ xs) taken e next g =
     (λ more. subst (AgreeBelow (length (x ∷ xs)) (x ∷ xs)) (sym more) (agree_append (x ∷ xs) (e ∷ [])))
     g
 
-module _ (s : Notes) (node : ℕ) (leading : Leading) (written : Option EntryPayload) (w : GroupWorld) (l : Led) (next : IsNext leading written w l) (at : ℕ) (e : IsEndOf s w l leading.last at) where
+module _ (s : Notes) (node : ℕ) (leading : Leading) (last : LogId ℕ) (is_last : leading.last ≡ Some last) (written : Option EntryPayload) (w : GroupWorld) (l : Led) (next : IsNext leading written w l) (at : ℕ) (e : IsEndOf s w l last at) where
   own_come_last : (x : Noted) → slice_get s.noted at ≡ Some x → OwnComeLast leading.vote l.list x.entry.log_id
   own_come_last x there =
-      let id : leading.last ≡ x.entry.log_id = sym e.noted.of_id ∙ ap (λ (y : Noted). y.entry.log_id) (same_some (sym e.noted.there ∙ there)) in
-      let last = next.told.last in
-      let own : OwnComeLast l.vote l.list last.last.log_id = next.own last.before last.last last.is in
-      let under = subst (λ (v : Vote ℕ). OwnComeLast v l.list last.last.log_id) next.told.vote own in
-      subst (λ (i : LogId ℕ). OwnComeLast leading.vote l.list i) (last.of_id ∙ id) under
+      let id : last ≡ x.entry.log_id = sym e.noted.of_id ∙ ap (λ (y : Noted). y.entry.log_id) (same_some (sym e.noted.there ∙ there)) in
+      let ends : EndsWith l.list last = subst (HasLast l.list) is_last next.told.last in
+      let own : OwnComeLast l.vote l.list ends.last.log_id = next.own ends.before ends.last ends.is in
+      let under = subst (λ (v : Vote ℕ). OwnComeLast v l.list ends.last.log_id) next.told.vote own in
+      subst (λ (i : LogId ℕ). OwnComeLast leading.vote l.list i) (ends.of_id ∙ id) under
 
   pub is_note : l.node ≡ node → IsNoteOf s node leading.vote at l
   is_note of_node =
-      let goes = gained_goes_on ((accounts_of s).latest l.vote) (taken_over l) (entry_of leading.last (new_payload ((accounts_of s).latest l.vote) written)) l.list (next.told.gains (accounts_of s) w e.truth refl) in
+      let goes = gained_goes_on ((accounts_of s).latest l.vote) (base_of l) (entry_of last (new_payload ((accounts_of s).latest l.vote) written)) l.list (next.told.gains (accounts_of s) w e.truth refl last is_last) in
       record {
         of_node = of_node;
         of_vote = next.told.vote;
@@ -86,11 +87,18 @@ pub record NotesWith (s : Notes) (node : ℕ) (vote : Vote ℕ) (at : ℕ) (next
   pub truth : (w : GroupWorld) (l : Led) (list : List Entry) → AreTrue (accounts_of s) w → IsNoteOf s node vote at l → PartsAreFronts list (with_note w l) → AreTrue (accounts_of next) (with_note w l)
   pub noted : next.noted ≡ s.noted
 
-pub leads : (s more next : Notes) (node : ℕ) (leading : Leading) (written : Option EntryPayload) (at : ℕ) → EndsAt s leading written at more → NotesWith more node leading.vote at next → Leads s node leading written next
-leads s more next node leading written at ends notes w l list is of_node fronts h =
+pub leads : (s more next : Notes) (node : ℕ) (leading : Leading) (last : LogId ℕ) → leading.last ≡ Some last → (written : Option EntryPayload) (at : ℕ) → EndsAt s leading last written at more → NotesWith more node leading.vote at next → Leads s node leading written next
+leads s more next node leading last is_last written at ends notes w l list is of_node fronts h =
     let e = ends w l is h in
-    list_behind_note more node leading written w l is at e next notes.noted
-    (notes.truth w l list e.truth (is_note more node leading written w l is at e of_node) fronts)
+    list_behind_note more node leading last is_last written w l is at e next notes.noted
+    (notes.truth w l list e.truth (is_note more node leading last is_last written w l is at e of_node) fronts)
+
+-- a leader has the set-up's entry at least
+pub leads_with_none : (s : Notes) (node : ℕ) (leading : Leading) (written : Option EntryPayload) → leading.last ≡ None → Leads s node leading written s
+leads_with_none s node leading written none w l list is of_node fronts h =
+    let empty : l.list ≡ [] = subst (HasLast l.list) none is.told.last in
+    let first = is.told.first is.membership is.set_up in
+    absurd (let no : None ≡ Some (setup_entry is.membership) = sym (ap (λ (xs : List Entry). slice_get xs 0) empty) ∙ first in cc)
 
 pub may_not_lead : (s : Notes) (node : ℕ) (said : Option Leading) (written : Option EntryPayload) → said ≡ None → MayLead s node said written s
 may_not_lead s node said written none w notes list next fronts h =

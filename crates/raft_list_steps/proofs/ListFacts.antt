@@ -18,7 +18,7 @@ use Rattle.raft_list_laws.specs.Changes.{with_note}
 use Rattle.raft_group_lists.specs.declared.notes.Noted.{Noted}
 use Rattle.raft_group_lists.specs.Notes.{EndsWith, IsNotedAt, before_in, entry_in, front}
 use Rattle.raft_list_steps.specs.Lists.{IsKnown, IsLedFront, IsSetUpAlone, setup_entry}
-use Rattle.raft_list_steps.specs.Reports.{before_own}
+use Rattle.raft_list_laws.specs.Bases.{before_own}
 use Rattle.raft_list_steps.specs.Steps.{ListsAgree}
 
 -- ---- log ids

@@ -12,12 +12,13 @@ use Rattle.raft_list_laws.specs.Changes.{IsSilent, with_message}
 use Rattle.raft_list_laws.proofs.Fronts.{fronts_before_messages}
 use Rattle.raft_list_laws.proofs.Keeping.{silent_keep}
 use Rattle.raft_group_lists.specs.declared.notes.Noted.{Noted}
-use Rattle.raft_group_lists.specs.Facts.{AcceptsUpTo, accepted_in}
+use Rattle.raft_group_lists.specs.Facts.{AcceptsUpTo}
 use Rattle.raft_group_lists.specs.Notes.{Notes, accounts_of, list_to}
 use Rattle.raft_group_lists.proofs.MessageLemmas.{messages_accept}
-use Rattle.raft_list_steps.specs.declared.report.Acceptance.{Acceptance}
+use Rattle.raft_list_facts.specs.declared.acceptance.Acceptance.{Acceptance}
+use Rattle.raft_list_facts.specs.Accepting.{accepted_in}
 use Rattle.raft_list_steps.specs.Lists.{HasFirst, IsKnown, IsListOf}
-use Rattle.raft_list_steps.specs.Reports.{accepted_by, listed, said_accepted}
+use Rattle.raft_list_steps.specs.Reports.{accepted_by, listed}
 use Rattle.raft_list_steps.specs.Steps.{Accepts, AreSentBy, with_messages}
 
 -- ---- worlds with more messages
@@ -65,24 +66,24 @@ list_behind_message s next w m same t h =
         known
 
 silent_one : (m : Message) → accepted_in m.body ≡ None → IsSilent m
-silent_one m none = subst (λ (o : Option (Vote ℕ × LogId ℕ)). MatchOption o (IsSilent m) (λ x. AcceptsUpTo m.sender x.0 x.1 m)) none (messages_accept m)
+silent_one m none = subst (λ (o : Option Acceptance). MatchOption o (IsSilent m) (λ x. AcceptsUpTo m.sender x.vote x.last m)) none (messages_accept m)
 
-accepting_one : (m : Message) (x : Vote ℕ × LogId ℕ) → accepted_in m.body ≡ Some x → AcceptsUpTo m.sender x.0 x.1 m
-accepting_one m x some = subst (λ (o : Option (Vote ℕ × LogId ℕ)). MatchOption o (IsSilent m) (λ y. AcceptsUpTo m.sender y.0 y.1 m)) some (messages_accept m)
+accepting_one : (m : Message) (x : Acceptance) → accepted_in m.body ≡ Some x → AcceptsUpTo m.sender x.vote x.last m
+accepting_one m x some = subst (λ (o : Option Acceptance). MatchOption o (IsSilent m) (λ y. AcceptsUpTo m.sender y.vote y.last m)) some (messages_accept m)
 
 -- whether a message accepts
-accepts_or_not : (m : Message) → (accepted_in m.body ≡ None) ⊎ ((x : Vote ℕ × LogId ℕ) × (accepted_in m.body ≡ Some x))
+accepts_or_not : (m : Message) → (accepted_in m.body ≡ None) ⊎ ((x : Acceptance) × (accepted_in m.body ≡ Some x))
 accepts_or_not m = go (accepted_in m.body) refl
   where
-    go : (o : Option (Vote ℕ × LogId ℕ)) → accepted_in m.body ≡ o → (accepted_in m.body ≡ None) ⊎ ((x : Vote ℕ × LogId ℕ) × (accepted_in m.body ≡ Some x))
+    go : (o : Option Acceptance) → accepted_in m.body ≡ o → (accepted_in m.body ≡ None) ⊎ ((x : Acceptance) × (accepted_in m.body ≡ Some x))
     go None e = inl e
     go (Some x) e = inr (x, e)
 
 behind_silent : (m : Message) (ms : List Message) → accepted_in m.body ≡ None → accepted_by (m ∷ ms) ≡ accepted_by ms
-behind_silent m ms none = ap (λ (o : Option (Vote ℕ × LogId ℕ)). listed o ++ accepted_by ms) none
+behind_silent m ms none = ap (λ (o : Option Acceptance). listed o ++ accepted_by ms) none
 
-behind_accepting : (m : Message) (ms : List Message) (x : Vote ℕ × LogId ℕ) → accepted_in m.body ≡ Some x → accepted_by (m ∷ ms) ≡ x ∷ accepted_by ms
-behind_accepting m ms x some = ap (λ (o : Option (Vote ℕ × LogId ℕ)). listed o ++ accepted_by ms) some
+behind_accepting : (m : Message) (ms : List Message) (x : Acceptance) → accepted_in m.body ≡ Some x → accepted_by (m ∷ ms) ≡ x ∷ accepted_by ms
+behind_accepting m ms x some = ap (λ (o : Option Acceptance). listed o ++ accepted_by ms) some
 
 -- messages that accept nothing
 pub accepts_none : (s : Notes) (w : GroupWorld) (ms : List Message) → accepted_by ms ≡ [] → IsListOf s w → IsListOf s (with_messages w ms)
@@ -100,31 +101,31 @@ pub record AcceptsWith (s : Notes) (node : ℕ) (vote : Vote ℕ) (last : LogId 
   pub truth : (w : GroupWorld) (m : Message) (list : List Entry) → AreTrue (accounts_of s) w → AcceptsUpTo node vote last m → PartsAreFronts list (with_message w m) → AreTrue (accounts_of next) (with_message w m)
   pub noted : next.noted ≡ s.noted
 
-module _ (s next : Notes) (node : ℕ) (vote : Vote ℕ) (last : LogId ℕ) (is : AcceptsWith s node vote last next) (list : List Entry) where
+module _ (s next : Notes) (node : ℕ) (accepted : Acceptance) (is : AcceptsWith s node accepted.vote accepted.last next) (list : List Entry) where
   -- messages of which one accepts
-  accepts_once : (w : GroupWorld) (ms : List Message) → PartsAreFronts list (with_messages w ms) → AreSentBy node ms → accepted_by ms ≡ (vote, last) ∷ [] → IsListOf s w → IsListOf next (with_messages w ms)
-  accepts_once w [] fronts sent one h = absurd (let no : [] ≡ (vote, last) ∷ [] = one in cc)
+  accepts_once : (w : GroupWorld) (ms : List Message) → PartsAreFronts list (with_messages w ms) → AreSentBy node ms → accepted_by ms ≡ accepted ∷ [] → IsListOf s w → IsListOf next (with_messages w ms)
+  accepts_once w [] fronts sent one h = absurd (let no : [] ≡ accepted ∷ [] = one in cc)
   accepts_once w (m ∷ ms) fronts sent one h =
       ⊎_elim
       (λ silent.
       accepts_once (with_message w m) ms fronts (λ x c. sent x (among_contains (m ∷ ms) x (inr (contains_among ms x c)))) (sym (behind_silent m ms silent) ∙ one)
       (list_behind_message s s w m refl (silent_keep (accounts_of s) w m h.truth (silent_one m silent)) h))
       (λ x.
-      let both : x.0 ∷ accepted_by ms ≡ (vote, last) ∷ [] = sym (behind_accepting m ms x.0 x.1) ∙ one in
-      let same : x.0 ≡ (vote, last) = cc in
+      let both : x.0 ∷ accepted_by ms ≡ accepted ∷ [] = sym (behind_accepting m ms x.0 x.1) ∙ one in
+      let same : x.0 ≡ accepted = cc in
       let rest : accepted_by ms ≡ [] = cc in
       let by : m.sender ≡ node = sent m (among_contains (m ∷ ms) m (inl refl)) in
-      let up_to : AcceptsUpTo node vote last m =
-      subst (λ (n : ℕ). AcceptsUpTo n vote last m) by
-      (subst (λ (y : Vote ℕ × LogId ℕ). AcceptsUpTo m.sender y.0 y.1 m) same (accepting_one m x.0 x.1))
+      let up_to : AcceptsUpTo node accepted.vote accepted.last m =
+      subst (λ (n : ℕ). AcceptsUpTo n accepted.vote accepted.last m) by
+      (subst (λ (y : Acceptance). AcceptsUpTo m.sender y.vote y.last m) same (accepting_one m x.0 x.1))
       in
       accepts_none next (with_message w m) ms rest
       (list_behind_message s next w m is.noted (is.truth w m list h.truth up_to (fronts_before_all list (with_message w m) ms fronts)) h))
       (accepts_or_not m)
 
 pub accepts_nothing : (s : Notes) (node : ℕ) (said : Option Acceptance) → said ≡ None → Accepts s node said s
-accepts_nothing s node said none w sent list fronts by is h = accepts_none s w sent (is ∙ ap said_accepted none) h
+accepts_nothing s node said none w sent list fronts by is h = accepts_none s w sent (is ∙ ap listed none) h
 
 pub accepts : (s next : Notes) (node : ℕ) (said : Option Acceptance) (x : Acceptance) → said ≡ Some x → AcceptsWith s node x.vote x.last next → Accepts s node said next
 accepts s next node said x some with_it w sent list fronts by is h =
-    accepts_once s next node x.vote x.last with_it list w sent fronts by (is ∙ ap said_accepted some) h
+    accepts_once s next node x with_it list w sent fronts by (is ∙ ap listed some) h

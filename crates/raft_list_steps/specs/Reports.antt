@@ -1,10 +1,8 @@
 -- What is heard of an event in a group, and when it is what happened.
-use Rattle.std.specs.Prelude.{◌≡◌, ◌⊎◌, ℕ, ◌≤◌, if◌then◌else◌, List, [], ◌∷◌, ◌++◌, length, slice_get, Option, Some, None, MatchOption, Contains, unwrap_or}
-use Rattle.raft_values.specs.declared.vote.LeaderId.{LeaderId}
-use Rattle.raft_values.specs.declared.vote.Vote.{Vote}
+use Rattle.std.specs.Prelude.{◌≡◌, ◌⊎◌, ℕ, ◌≤◌, List, [], ◌∷◌, ◌++◌, length, slice_get, Option, Some, None, MatchOption, Contains, unwrap_or}
 use Rattle.raft_values.specs.declared.log_id.LogId.{LogId}
 use Rattle.raft_state.specs.declared.entry.EntryPayload.TheVariants.{Blank}
-use Rattle.raft_group_step.specs.Values.{Entry, EntryPayload, Membership, entry_of, is_written_by}
+use Rattle.raft_group_step.specs.Values.{Entry, EntryPayload, Membership, entry_of}
 use Rattle.raft_group_step.specs.Message.{Message}
 use Rattle.raft_laws.specs.BallotLists.{AgreeBelow}
 use Rattle.raft_laws.specs.declared.world_event.WorldEvent.{WorldEvent}
@@ -12,12 +10,15 @@ use Rattle.raft_laws.specs.GroupWorld.{GroupWorld, Led, Outcome, Recorded}
 use Rattle.raft_laws.specs.GroupRun.{At, Replays, led_after, scene_of, sent_in, setup_after}
 use Rattle.raft_laws.specs.NodeEvent.{NodeEvent}
 use Rattle.raft_laws.specs.OneList.{IsGroupHistory}
+use Rattle.raft_list_facts.specs.Accepting.{accepted_in}
+use Rattle.raft_list_facts.specs.declared.acceptance.Acceptance.{Acceptance}
+use Rattle.raft_list_facts.specs.declared.leading.Base.{Base}
+use Rattle.raft_list_facts.specs.declared.leading.Base.TheVariants.{Nothing, UpTo, Unknown}
+use Rattle.raft_list_facts.specs.declared.leading.Leading.{Leading}
 use Rattle.raft_list_laws.specs.Accounts.{Accounts, AreTrue}
+use Rattle.raft_list_laws.specs.Bases.{base_of}
 use Rattle.raft_group_lists.specs.Notes.{EndsWith, Notes, accounts_of}
-use Rattle.raft_group_lists.specs.Facts.{accepted_in}
-use Rattle.raft_list_steps.specs.declared.report.Acceptance.{Acceptance}
 use Rattle.raft_list_steps.specs.declared.report.GroupReport.{GroupReport}
-use Rattle.raft_list_steps.specs.declared.report.Leading.{Leading}
 use Rattle.raft_list_steps.specs.declared.report.SetUp.{SetUp}
 use Rattle.raft_list_steps.specs.Lists.{IsLedFront, IsListOf, setup_entry}
 
@@ -33,29 +34,16 @@ SaysSetUp said first = MatchOption said (first ≡ None) (λ s. (first ≡ Some 
 
 -- ---- messages
 
-abbrev pub listed : Option (Vote ℕ × LogId ℕ) → List (Vote ℕ × LogId ℕ)
+abbrev pub listed : Option Acceptance → List Acceptance
 listed None = []
 listed (Some accepted) = accepted ∷ []
 
--- what messages accept: under which vote, and up to which log id
-abbrev pub accepted_by : List Message → List (Vote ℕ × LogId ℕ)
+-- what messages accept
+abbrev pub accepted_by : List Message → List Acceptance
 accepted_by [] = []
 accepted_by (m ∷ ms) = listed (accepted_in m.body) ++ accepted_by ms
 
-abbrev pub said_accepted : Option Acceptance → List (Vote ℕ × LogId ℕ)
-said_accepted None = []
-said_accepted (Some accepted) = (accepted.vote, accepted.last) ∷ []
-
 -- ---- the note of a leader
-
--- the entries up to the leader's first own one
-abbrev pub before_own : LeaderId ℕ → List Entry → List Entry
-before_own leader [] = []
-before_own leader (e ∷ es) = if is_written_by leader e then [] else e ∷ before_own leader es
-
--- what a leader took over from former ones
-abbrev pub taken_over : Led → List Entry
-taken_over l = before_own l.vote.leader_id l.list
 
 -- where a leader's list goes on from: what it was noted with last, or what it took over
 abbrev pub start_of : List Entry → List Entry → List Entry
@@ -75,17 +63,23 @@ IsGained start e list = (list ≡ start) ⊎ (list ≡ start ++ e ∷ [])
 abbrev pub HasLast : List Entry → Option (LogId ℕ) → Type 0
 HasLast list last = MatchOption last (list ≡ []) (λ id. EndsWith list id)
 
+-- what a leader took over is told
+abbrev pub IsBase : List Entry → Base → Type 0
+IsBase taken Nothing = taken ≡ []
+IsBase taken (UpTo id) = EndsWith taken id
+IsBase taken Unknown = ⊥
+
 -- what a leader tells of its list is so, by accounts of the notes before this one
 pub record IsLeadOf (leading : Leading) (written : Option EntryPayload) (w w' : GroupWorld) (l : Led) : Type 0 where
   pub vote : l.vote ≡ leading.vote
-  pub last : EndsWith l.list leading.last
+  pub last : HasLast l.list leading.last
   -- a leader that wasn't noted before took over all up to this log id
-  pub base : (a : Accounts) (v : GroupWorld) → AreTrue a v → v.led ≡ w.led → a.latest l.vote ≡ [] → HasLast (taken_over l) leading.base
+  pub base : (a : Accounts) (v : GroupWorld) → AreTrue a v → v.led ≡ w.led → a.latest l.vote ≡ [] → IsBase (base_of l) leading.base
   -- its list has one new entry at most
-  pub gains : (a : Accounts) (v : GroupWorld) → AreTrue a v → v.led ≡ w.led
-      → IsGained (start_of (a.latest l.vote) (taken_over l)) (entry_of leading.last (new_payload (a.latest l.vote) written)) l.list
+  pub gains : (a : Accounts) (v : GroupWorld) → AreTrue a v → v.led ≡ w.led → (last : LogId ℕ) → leading.last ≡ Some last
+      → IsGained (start_of (a.latest l.vote) (base_of l)) (entry_of last (new_payload (a.latest l.vote) written)) l.list
   -- what it took over another leader was noted with before, or it is the set-up's entry alone, or nothing
-  pub taken : (length (taken_over l) ≤ 1) ⊎ IsLedFront w (taken_over l)
+  pub taken : (length (base_of l) ≤ 1) ⊎ IsLedFront w (base_of l)
   -- the set-up's entry is the first
   pub first : (m : Membership) → w'.setup ≡ Some m → slice_get l.list 0 ≡ Some (setup_entry m)
 
@@ -108,7 +102,7 @@ pub record IsReportOf (report : GroupReport) (w : GroupWorld) (r : Recorded) (w'
   pub set_up : SaysSetUp report.set_up (first_setup w.setup r.event r.outcome)
   pub leads : SaysLead report.leading report.written w w' (led_after r.outcome report.node (w'.nodes report.node))
   pub senders : (m : Message) → Contains (sent_in r.outcome) m → m.sender ≡ report.node
-  pub accepted : accepted_by (sent_in r.outcome) ≡ said_accepted report.accepted
+  pub accepted : accepted_by (sent_in r.outcome) ≡ listed report.accepted
 
 -- what was noted of the world is then noted of the one behind the event, whose list goes on from that of the first
 pub record IsHeard (s : Notes) (w' : GroupWorld) (next : Notes) : Type 0 where

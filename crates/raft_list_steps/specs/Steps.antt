@@ -9,11 +9,12 @@ use Rattle.raft_list_laws.specs.Accounts.{AreTrue, PartsAreFronts}
 use Rattle.raft_list_laws.specs.Changes.{with_message, with_note, with_setup}
 use Rattle.raft_group_lists.specs.Facts.{OwnComeLast}
 use Rattle.raft_group_lists.specs.Notes.{EndsWith, IsNotedAt, Notes, accounts_of, list_to}
-use Rattle.raft_list_steps.specs.declared.report.Acceptance.{Acceptance}
-use Rattle.raft_list_steps.specs.declared.report.Leading.{Leading}
+use Rattle.raft_list_facts.specs.declared.acceptance.Acceptance.{Acceptance}
+use Rattle.raft_list_facts.specs.declared.leading.Leading.{Leading}
 use Rattle.raft_list_steps.specs.declared.report.SetUp.{SetUp}
 use Rattle.raft_list_steps.specs.Lists.{HasFirst, IsKnown, IsListOf}
-use Rattle.raft_list_steps.specs.Reports.{IsLeadOf, SaysSetUp, accepted_by, said_accepted, start_of, taken_over}
+use Rattle.raft_list_steps.specs.Reports.{IsLeadOf, SaysSetUp, accepted_by, listed, start_of}
+use Rattle.raft_list_laws.specs.Bases.{base_of}
 
 -- ---- worlds
 
@@ -83,11 +84,11 @@ EndsElsewhere s last start = (k : ℕ) → start ≡ Some k → EndsWith (list_t
 abbrev pub StartsAt : Notes → Leading → Option ℕ → Type 0
 StartsAt s leading at =
     (written : Option EntryPayload) (w : GroupWorld) (l : Led) → IsNext leading written w l → IsListOf s w
-    → list_to s.noted at ≡ start_of ((accounts_of s).latest l.vote) (taken_over l)
+    → list_to s.noted at ≡ start_of ((accounts_of s).latest l.vote) (base_of l)
 
-abbrev pub EndsAt : Notes → Leading → Option EntryPayload → ℕ → Notes → Type 0
-EndsAt s leading written at next =
-    (w : GroupWorld) (l : Led) → IsNext leading written w l → IsListOf s w → IsEndOf next w l leading.last at
+abbrev pub EndsAt : Notes → Leading → LogId ℕ → Option EntryPayload → ℕ → Notes → Type 0
+EndsAt s leading last written at next =
+    (w : GroupWorld) (l : Led) → IsNext leading written w l → IsListOf s w → IsEndOf next w l last at
 
 -- what is settled behind the note stands on one list
 abbrev pub Leads : Notes → ℕ → Leading → Option EntryPayload → Notes → Type 0
@@ -113,4 +114,4 @@ AreSentBy node sent = (m : Message) → Contains sent m → m.sender ≡ node
 abbrev pub Accepts : Notes → ℕ → Option Acceptance → Notes → Type 0
 Accepts s node said next =
     (w : GroupWorld) (sent : List Message) (list : List Entry) → PartsAreFronts list (with_messages w sent)
-    → AreSentBy node sent → accepted_by sent ≡ said_accepted said → IsListOf s w → IsListOf next (with_messages w sent)
+    → AreSentBy node sent → accepted_by sent ≡ listed said → IsListOf s w → IsListOf next (with_messages w sent)

@@ -4,9 +4,10 @@ ghost use Rattle.raft_group_lists.specs.Room.{HasRoom};
 ghost use Rattle.raft_list_steps.specs.Reports.{Hears};
 ghost use Rattle.raft_list_steps.specs.Steps.{Accepts, Leads, MayLead, SetsUp};
 
-use crate::report::{Acceptance, GroupReport, Leading, SetUp};
+use crate::report::{GroupReport, SetUp};
 use crate::start::end_of;
 use raft_group_lists::GroupList;
+use raft_list_facts::{Acceptance, Leading};
 use raft_state::{BasicNode, Bytes, Entry, EntryPayload, LeaderId, LogId};
 
 // The group is set up, and the set-up's entry is noted.
@@ -42,7 +43,7 @@ fn hear_set_up(list: &mut GroupList, set_up: Option<SetUp>)
     }
 }
 
-// The node is noted as a leader with its list.
+// The node is noted as a leader with its list, which has the entry of the set-up at least.
 fn hear_leader(
     list: &mut GroupList,
     node: u64,
@@ -53,7 +54,10 @@ fn hear_leader(
     ensures truth { Leads list.old.notes node leading written list.new.notes }
     ensures room { HasRoom list.new 0 1 }
 {
-    let at = end_of(list, &leading, written);
+    let Some(last) = leading.last else {
+        return;
+    };
+    let at = end_of(list, &leading, last, written);
     match list.note(node, leading.vote, at) {
         Ok(()) => {}
         Err(_) => unreachable!(),

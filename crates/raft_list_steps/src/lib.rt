@@ -8,4 +8,5 @@ mod start;
 
 pub use events::list_behind;
 pub use hearing::hear;
-pub use report::{Acceptance, GroupReport, Leading, SetUp};
+pub use raft_list_facts::{Acceptance, Base, Leading};
+pub use report::{GroupReport, SetUp};

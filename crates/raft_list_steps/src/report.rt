@@ -1,6 +1,7 @@
 //! What is heard of an event in a group.
+use raft_list_facts::{Acceptance, Leading};
 use raft_quorums::voter_groups::VoterGroups;
-use raft_state::{BasicNode, Bytes, EntryPayload, LogId, Membership, Vote};
+use raft_state::{BasicNode, Bytes, EntryPayload, Membership};
 
 /// The set-up of a group (own).
 #[derive(Debug, Drop)]
@@ -9,26 +10,6 @@ pub struct SetUp {
     pub membership: Membership<u64, BasicNode>,
     /// Its voter groups.
     pub voters: VoterGroups<u64>,
-}
-
-/// What a leader tells of its list (own).
-#[derive(Clone, Copy, Debug)]
-pub struct Leading {
-    /// The vote under which it leads.
-    pub vote: Vote<u64>,
-    /// The last log id of its list.
-    pub last: LogId<u64>,
-    /// The last log id that it took over from former leaders, if it took over any. It matters where the leader wasn't noted before.
-    pub base: Option<LogId<u64>>,
-}
-
-/// What a message accepts (own).
-#[derive(Clone, Copy, Debug)]
-pub struct Acceptance {
-    /// The vote under which it accepts.
-    pub vote: Vote<u64>,
-    /// The log id up to which it accepts all.
-    pub last: LogId<u64>,
 }
 
 /// What is heard of an event in a group (own).

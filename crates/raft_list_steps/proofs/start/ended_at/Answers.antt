@@ -9,7 +9,7 @@ use Rattle.raft_list_steps.proofs.start.ended_at.Goals as goal
 pub returns-then-eq : goal.returns-then-eq
 returns-then-eq c =
     let noted = c.args.list.now.notes.noted in
-    let last = c.args.leading.now.last in
+    let last = c.args.last.now in
     let same : c.id_at.result ≡ last = same_log_id c.id_at.result last (sym c.eq.ensures ∙ c.if-eq.true) in
     record {
       there = c.in-Some.is;
@@ -21,7 +21,7 @@ returns-then-eq c =
 pub returns-else-eq : goal.returns-else-eq
 returns-else-eq c = λ k is ends.
     let noted = c.args.list.now.notes.noted in
-    let last = c.args.leading.now.last in
+    let last = c.args.last.now in
     let at : Some c.in-Some.at ≡ Some k = sym c.in-Some.is ∙ is in
     let here = subst (λ (o : Option ℕ). EndsWith (list_to noted o) c.id_at.result) at c.id_at.ensures.ends in
     let same : c.id_at.result ≡ last = one_end (list_to noted (Some k)) c.id_at.result last here ends in

@@ -1,0 +1,3 @@
+pub mod SameNotes
+pub mod QuietEvents
+pub mod ListsKept
