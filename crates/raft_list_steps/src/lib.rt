@@ -3,9 +3,11 @@
 
 mod events;
 mod hearing;
+mod laws;
 mod report;
 mod start;
 
 pub use events::list_behind;
 pub use hearing::hear;
+pub use laws::events_accept_once;
 pub use report::{Acceptance, GroupReport, Leading, SetUp};
