@@ -1,9 +1,9 @@
 -- A leader is noted with its list.
-use Rattle.std.specs.Prelude.{◌≡◌, ◌⊎◌, ℕ, ◌<◌, List, [], ◌∷◌, ◌++◌, length, slice_get, Option, Some, None, Contains, refl}
+use Rattle.std.specs.Prelude.{◌≡◌, ◌⊎◌, ℕ, ◌<◌, List, [], ◌∷◌, length, slice_get, Option, Some, None, refl}
 use Rattle.std.proofs.Common.{inl, inr, sym, ap, ◌∙◌, subst, arith, ⊎_elim}
 use Rattle.raft_values.specs.declared.vote.Vote.{Vote}
 use Rattle.raft_values.specs.declared.log_id.LogId.{LogId}
-use Rattle.raft_group_step.specs.Values.{Entry, EntryPayload, Membership, entry_of}
+use Rattle.raft_group_step.specs.Values.{Entry, EntryPayload, entry_of}
 use Rattle.raft_laws.specs.BallotLists.{AgreeBelow}
 use Rattle.raft_laws.specs.GroupWorld.{GroupWorld, Led}
 use Rattle.raft_laws.proofs.BallotAgreement.{agree_append, agree_none, agree_refl, same_some}
@@ -11,9 +11,9 @@ use Rattle.raft_list_laws.specs.Accounts.{AreTrue, PartsAreFronts}
 use Rattle.raft_list_laws.specs.Changes.{with_note}
 use Rattle.raft_group_lists.specs.declared.notes.Noted.{Noted}
 use Rattle.raft_group_lists.specs.Facts.{IsNoteOf, OwnComeLast}
-use Rattle.raft_group_lists.specs.Notes.{IsNotedAt, Notes, accounts_of, list_to}
+use Rattle.raft_group_lists.specs.Notes.{Notes, accounts_of, list_to}
 use Rattle.raft_list_steps.specs.declared.report.Leading.{Leading}
-use Rattle.raft_list_steps.specs.Lists.{HasFirst, IsKnown, IsListOf}
+use Rattle.raft_list_steps.specs.Lists.{IsKnown, IsListOf}
 use Rattle.raft_list_steps.specs.Reports.{IsGained, new_payload, start_of, taken_over}
 use Rattle.raft_list_steps.specs.Steps.{AreNext, EndsAt, IsEndOf, IsNext, Leads, MayLead, with_notes}
 use Rattle.raft_list_steps.proofs.ListFacts.{last_noted, still_noted}

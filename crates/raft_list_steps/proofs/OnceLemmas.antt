@@ -34,7 +34,7 @@ use Rattle.raft_group_step.proofs.Words.{either}
 use Rattle.raft_step_laws.specs.Replies.{is_request}
 use Rattle.raft_step_laws.proofs.Answering.{requests_answered}
 use Rattle.raft_step_laws.proofs.Sending.{AsksReply, finished_adds}
-use Rattle.raft_laws.specs.GroupWorld.{GroupWorld, NodeState, Absent, Up, Down}
+use Rattle.raft_laws.specs.GroupWorld.{NodeState, Absent, Up, Down}
 use Rattle.raft_laws.specs.NodeEvent.{NodeEvent, Comes, Crashes, Halts, Restarts, outcome_at, outcome_of_end, outcome_of_step, outcome_of_stop}
 use Rattle.raft_laws.specs.GroupRun.{Scene, Nowhere, At, outcome_in, scene_of, sent_in}
 use Rattle.raft_group_lists.specs.Facts.{accepted_in}
