@@ -1,21 +1,20 @@
 -- An event of a history: what it changes of the world, and what of the laws holds of its note.
-use Rattle.std.specs.Prelude.{◌≡◌, ◌⊎◌, ℕ, ◌==◌, ◌<◌, Bool, true, false, List, [], ◌∷◌, ◌++◌, length, slice_get, Option, Some, None, MatchOption, Contains, refl}
-use Rattle.std.proofs.Common.{inl, inr, sym, ap, ap₂, ◌∙◌, subst, arith, ⊎_elim, append-nil, eq-eqb}
+use Rattle.std.specs.Prelude.{◌≡◌, ◌⊎◌, ℕ, Bool, List, [], ◌∷◌, ◌++◌, length, Option, Some, None, Contains, refl}
+use Rattle.std.proofs.Common.{inl, inr, sym, ap, ap₂, ◌∙◌, subst, ⊎_elim, append-nil, eq-eqb}
 use Rattle.raft_group_step.specs.Values.{Entry, EntryPayload, Membership}
 use Rattle.raft_group_step.specs.Message.{Message}
 use Rattle.raft_group_step.specs.GroupState.{GroupState, Role, Follower, Candidate, Leader}
 use Rattle.raft_laws.specs.BallotLists.{AgreeBelow}
 use Rattle.raft_laws.specs.declared.world_event.WorldEvent.{WorldEvent}
 use Rattle.raft_laws.specs.GroupWorld.{GroupWorld, Led, NodeState, Absent, Up, Down, Outcome, Done, Refused, Stopped, Skipped, Recorded, is_stop, new_world, state_or, with_node_state}
-use Rattle.raft_laws.specs.GroupRun.{Scene, Nowhere, At, after_scene, ended, happens, led_after, led_as, led_by, outcome_in, scene_of, sent_in, setup_after, stop_at}
+use Rattle.raft_laws.specs.GroupRun.{Scene, Nowhere, At, after_scene, happens, led_after, led_as, led_by, outcome_in, scene_of, sent_in, setup_after, stop_at}
 use Rattle.raft_laws.specs.NodeEvent.{NodeEvent, state_after}
 use Rattle.raft_laws.specs.OneList.{IsGroupHistory}
 use Rattle.raft_laws.specs.Settled.{group_list}
-use Rattle.raft_laws.proofs.BallotAgreement.{same_some}
 use Rattle.raft_laws.proofs.GroupList.{goes_on, list_grows}
 use Rattle.raft_laws.proofs.Histories.{histories-join}
 use Rattle.raft_laws.proofs.WorldStart.{founded}
-use Rattle.raft_list_laws.specs.Accounts.{AreTrue, PartsAreFronts}
+use Rattle.raft_list_laws.specs.Accounts.{PartsAreFronts}
 use Rattle.raft_list_laws.specs.Changes.{with_note}
 use Rattle.raft_list_laws.proofs.Fronts.{parts_of_histories}
 use Rattle.raft_list_laws.proofs.Matching.{noted_lists_agree}

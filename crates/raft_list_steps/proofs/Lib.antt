@@ -6,3 +6,4 @@ pub mod LeadLemmas
 pub mod MessageLemmas
 pub mod EventLemmas
 pub mod RunLemmas
+pub mod OnceLemmas

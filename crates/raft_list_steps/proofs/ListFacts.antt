@@ -1,16 +1,14 @@
 -- Lists that end with an entry, fronts of noted lists, and entries that are noted.
-use Rattle.std.specs.Prelude.{◌≡◌, ◌⊎◌, ℕ, zero, suc, ◌+◌, ◌-◌, ◌<◌, ◌≤◌, ◌==◌, Bool, true, false, List, [], ◌∷◌, ◌++◌, length, take, slice_get, Option, Some, None, Contains, refl}
-use Rattle.std.proofs.Common.{inl, inr, sym, ap, ap₂, eqb-true, eq-eqb, ◌∙◌, subst, arith, ⊎_elim, length-append}
+use Rattle.std.specs.Prelude.{◌≡◌, ℕ, zero, suc, ◌+◌, ◌-◌, ◌==◌, true, List, [], ◌∷◌, ◌++◌, length, slice_get, Option, Some, None, Contains, refl}
+use Rattle.std.proofs.Common.{inl, sym, ap, ap₂, eqb-true, eq-eqb, ◌∙◌, subst, arith, ⊎_elim, length-append}
 use Rattle.std.proofs.lemmas.Bool.{and_from, and_parts, cases_lt, cases_Bool, cond-true, cond-false}
-use Rattle.std.proofs.lemmas.Option.{slice_get_within}
 use Rattle.raft_values.specs.declared.vote.LeaderId.{LeaderId}
 use Rattle.raft_values.specs.declared.log_id.LogId.{LogId}
 use Rattle.raft_group_step.specs.Values.{Entry, Membership, is_written_by, leader_eq, log_id_eq}
 use Rattle.raft_group_step.proofs.Votes.{leader_eq_same}
 use Rattle.raft_laws.specs.BallotLists.{AgreeBelow}
 use Rattle.raft_laws.specs.GroupWorld.{GroupWorld, Led}
-use Rattle.raft_laws.proofs.BallotAgreement.{agree_cons, agree_head, agree_less, agree_none, agree_refl, agree_sym, agree_tail, agree_trans, same_some, slice_get-append, slice_get_end}
-use Rattle.raft_laws.proofs.BallotSafe.{Among}
+use Rattle.raft_laws.proofs.BallotAgreement.{agree_cons, agree_head, agree_none, agree_tail, agree_trans, same_some, slice_get-append, slice_get_end}
 use Rattle.raft_laws.proofs.Counts.{among_behind, among_contains, among_front, contains_among}
 use Rattle.raft_laws.proofs.Shapes.{slice_after}
 use Rattle.raft_laws.proofs.VoteRanks.{leader_eq_from}

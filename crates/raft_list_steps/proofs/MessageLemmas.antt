@@ -1,11 +1,11 @@
 -- What messages accept is noted.
-use Rattle.std.specs.Prelude.{◌≡◌, ◌⊎◌, ℕ, ◌<◌, List, [], ◌∷◌, ◌++◌, length, Option, Some, None, MatchOption, Contains, refl}
-use Rattle.std.proofs.Common.{inl, inr, sym, ap, ◌∙◌, subst, arith, ⊎_elim, append-nil, append_assoc}
+use Rattle.std.specs.Prelude.{◌≡◌, ◌⊎◌, ℕ, ◌<◌, List, [], ◌∷◌, ◌++◌, length, Option, Some, None, MatchOption, refl}
+use Rattle.std.proofs.Common.{inl, inr, sym, ap, ◌∙◌, subst, ⊎_elim, append-nil, append_assoc}
 use Rattle.raft_values.specs.declared.vote.Vote.{Vote}
 use Rattle.raft_values.specs.declared.log_id.LogId.{LogId}
-use Rattle.raft_group_step.specs.Values.{Entry, Membership}
+use Rattle.raft_group_step.specs.Values.{Entry}
 use Rattle.raft_group_step.specs.Message.{Message}
-use Rattle.raft_laws.specs.GroupWorld.{GroupWorld, Led}
+use Rattle.raft_laws.specs.GroupWorld.{GroupWorld}
 use Rattle.raft_laws.proofs.Counts.{among_contains, contains_among}
 use Rattle.raft_list_laws.specs.Accounts.{AreTrue, PartsAreFronts}
 use Rattle.raft_list_laws.specs.Changes.{IsSilent, with_message}

@@ -1,7 +1,6 @@
 -- One report after another.
-use Rattle.std.specs.Prelude.{◌≡◌, ℕ, ◌<◌, List, [], ◌∷◌, ◌++◌, length, Option, Some, None, refl}
+use Rattle.std.specs.Prelude.{◌≡◌, ℕ, ◌<◌, List, [], ◌∷◌, ◌++◌, length, Some, None, refl}
 use Rattle.std.proofs.Common.{sym, ap, ◌∙◌, subst, arith}
-use Rattle.raft_group_step.specs.Values.{Membership}
 use Rattle.raft_laws.specs.GroupWorld.{GroupWorld, Recorded, new_world}
 use Rattle.raft_list_laws.specs.Accounts.{Accounts, AreTrue}
 use Rattle.raft_group_lists.specs.declared.notes.Noted.{Noted}

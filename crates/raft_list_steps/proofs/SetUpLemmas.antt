@@ -1,8 +1,8 @@
 -- A set-up is noted.
-use Rattle.std.specs.Prelude.{◌≡◌, ◌⊎◌, ℕ, ◌<◌, List, [], ◌∷◌, ◌++◌, length, Option, Some, None, Contains, refl}
-use Rattle.std.proofs.Common.{inl, inr, sym, ap, ◌∙◌, subst, arith, ⊎_elim}
+use Rattle.std.specs.Prelude.{◌≡◌, ℕ, ◌<◌, List, [], length, Option, Some, None, refl}
+use Rattle.std.proofs.Common.{inl, inr, sym, ap, ◌∙◌, subst, ⊎_elim}
 use Rattle.raft_group_step.specs.Values.{Entry, Membership}
-use Rattle.raft_laws.specs.GroupWorld.{GroupWorld, Led}
+use Rattle.raft_laws.specs.GroupWorld.{GroupWorld}
 use Rattle.raft_laws.proofs.BallotAgreement.{same_some}
 use Rattle.raft_list_laws.specs.Accounts.{AreTrue}
 use Rattle.raft_list_laws.specs.Changes.{with_setup}

@@ -1,5 +1,5 @@
 -- What is heard of an event in a group, and when it is what happened.
-use Rattle.std.specs.Prelude.{◌≡◌, ◌⊎◌, ℕ, ◌≤◌, List, [], ◌∷◌, ◌++◌, length, slice_get, Option, Some, None, MatchOption, Contains, unwrap_or}
+use Rattle.std.specs.Prelude.{◌≡◌, ◌⊎◌, ℕ, ◌≤◌, Bool, List, [], ◌∷◌, ◌++◌, length, slice_get, Option, Some, None, MatchOption, Contains, unwrap_or}
 use Rattle.raft_values.specs.declared.log_id.LogId.{LogId}
 use Rattle.raft_state.specs.declared.entry.EntryPayload.TheVariants.{Blank}
 use Rattle.raft_group_step.specs.Values.{Entry, EntryPayload, Membership, entry_of}
@@ -7,7 +7,7 @@ use Rattle.raft_group_step.specs.Message.{Message}
 use Rattle.raft_laws.specs.BallotLists.{AgreeBelow}
 use Rattle.raft_laws.specs.declared.world_event.WorldEvent.{WorldEvent}
 use Rattle.raft_laws.specs.GroupWorld.{GroupWorld, Led, Outcome, Recorded}
-use Rattle.raft_laws.specs.GroupRun.{At, Replays, led_after, scene_of, sent_in, setup_after}
+use Rattle.raft_laws.specs.GroupRun.{At, Replays, led_after, outcome_of, scene_of, sent_in, setup_after}
 use Rattle.raft_laws.specs.NodeEvent.{NodeEvent}
 use Rattle.raft_laws.specs.OneList.{IsGroupHistory}
 use Rattle.raft_list_facts.specs.Accepting.{accepted_in}
@@ -42,6 +42,14 @@ listed (Some accepted) = accepted ∷ []
 abbrev pub accepted_by : List Message → List Acceptance
 accepted_by [] = []
 accepted_by (m ∷ ms) = listed (accepted_in m.body) ++ accepted_by ms
+
+-- one of them accepts at most
+abbrev pub AcceptsOnce : List Message → Type 0
+AcceptsOnce sent = (accepted_by sent ≡ []) ⊎ ((x : Acceptance) × (accepted_by sent ≡ x ∷ []))
+
+-- what an event sends, if it does, accepts once at most
+abbrev pub EventsAcceptOnce : Type 0
+EventsAcceptOnce = (w : GroupWorld) (e : WorldEvent) (stops : Bool) → AcceptsOnce (sent_in (outcome_of w e stops))
 
 -- ---- the note of a leader
 

@@ -1,4 +1,4 @@
-use Rattle.std.specs.Prelude.{◌≡◌, Some, None, refl}
+use Rattle.std.specs.Prelude.{Some, None, refl}
 use Rattle.raft_list_steps.specs.Lists.{setup_entry}
 use Rattle.raft_list_steps.proofs.EndLemmas.{IsWritten}
 use Rattle.raft_list_steps.proofs.SetUpLemmas.{SetsUpWith, sets_up}

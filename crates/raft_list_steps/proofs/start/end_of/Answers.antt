@@ -1,5 +1,4 @@
-use Rattle.std.specs.Prelude.{◌≡◌, refl}
-use Rattle.std.proofs.Common.{sym, ap, ◌∙◌, subst}
+use Rattle.std.proofs.Common.{subst}
 use Rattle.raft_group_step.specs.Values.{EntryPayload, entry_of}
 use Rattle.raft_list_steps.proofs.EndLemmas.{IsWritten, ends_at_start, ends_behind}
 use Rattle.raft_list_steps.proofs.start.end_of.Goals as goal

@@ -1,7 +1,6 @@
-use Rattle.std.specs.Prelude.{◌≡◌, ℕ, true, false, Option, Some, refl}
-use Rattle.std.proofs.Common.{sym, ap, ◌∙◌, subst}
+use Rattle.std.specs.Prelude.{◌≡◌, ℕ, true, false, Option, Some}
+use Rattle.std.proofs.Common.{sym, ◌∙◌, subst}
 use Rattle.raft_values.specs.declared.log_id.LogId.{LogId}
-use Rattle.raft_group_step.specs.Values.{log_id_eq}
 use Rattle.raft_group_lists.specs.Notes.{EndsWith, IsNotedAt, list_to}
 use Rattle.raft_list_steps.proofs.ListFacts.{log_id_itself, one_end, same_log_id}
 use Rattle.raft_list_steps.proofs.start.ended_at.Goals as goal
