@@ -4,6 +4,7 @@ use Rattle.std.proofs.Common.{inl, inr, sym, ap, ◌∙◌, ⊎_elim}
 use Rattle.raft_group_step.specs.Values.{Membership}
 use Rattle.raft_laws.specs.GroupWorld.{GroupWorld, Led, new_world}
 use Rattle.raft_laws.specs.Settled.{group_list, longer, settled_part}
+use Rattle.raft_laws.proofs.Counts.{contains_among}
 use Rattle.raft_list_laws.specs.Accounts.{AreTrue}
 use Rattle.raft_list_laws.specs.Changes.{with_setup}
 use Rattle.raft_group_lists.specs.Notes.{Notes, accounts_of, no_notes}
@@ -34,7 +35,7 @@ has_list s w has =
 nothing_true : (ids : List ℕ) → AreTrue (accounts_of no_notes) (new_world ids)
 nothing_true ids =
     record {
-      notes = record { voters = refl; noted = λ vote. inl refl; latest = λ l c. absurd c; reached = λ vote place node. refl };
+      notes = record { voters = refl; noted = λ vote. inl refl; latest = λ l c. absurd (contains_among [] l c); reached = λ vote place node. refl };
       list = refl;
     }
 

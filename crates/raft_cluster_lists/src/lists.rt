@@ -17,8 +17,8 @@ use std::marker::Model;
 /// kept of it, by rising group.
 #[derive(Debug, Drop)]
 pub struct ClusterLists {
-    alloc: Global,
-    groups: BTreeMap<u64, KeptGroup>,
+    pub(crate) alloc: Global,
+    pub(crate) groups: BTreeMap<u64, KeptGroup>,
 }
 
 impl Model for ClusterLists {

@@ -1,12 +1,12 @@
 -- What is noted of a group's leaders, and the accounts that it stands for.
 use Rattle.std.specs.Prelude.{◌≡◌, ℕ, zero, suc, ◌<◌, ◌≤◌, ◌==◌, ◌&&◌, ◌||◌, nat_le, if◌then◌else◌, Bool, false, List, []}
-use Rattle.std.specs.Prelude.{◌∷◌, ◌++◌, length, take, drop, slice_get, Option, Some, None}
+use Rattle.std.specs.Prelude.{◌∷◌, ◌++◌, length, take, drop, slice_get, Option, Some, None, option_map}
 use Rattle.std.specs.List.{list_any}
 use Rattle.raft_values.specs.declared.vote.LeaderId.{LeaderId}
 use Rattle.raft_values.specs.declared.vote.Vote.{Vote}
 use Rattle.raft_values.specs.declared.log_id.LogId.{LogId}
 use Rattle.raft_quorums.specs.Quorum.{is_quorum}
-use Rattle.raft_group_step.specs.Values.{Entry, is_written_by, vote_eq}
+use Rattle.raft_group_step.specs.Values.{Entry, LoggedMembership, Membership, is_written_by, last_membership, vote_eq}
 use Rattle.raft_laws.specs.Settled.{count_to_last}
 use Rattle.raft_list_laws.specs.Accounts.{Accounts, settled_of}
 use Rattle.raft_list_laws.specs.Changes.{GoesOn}
@@ -192,6 +192,12 @@ pub record IsNotedAt (noted : List Noted) (id : LogId ℕ) (at : ℕ) : Type 0 w
 -- none is noted
 abbrev pub HasNoId : List Noted → LogId ℕ → Type 0
 HasNoId noted id = (at : ℕ) → IsNotedAt noted id at → ⊥
+
+-- ---- the membership in force
+
+-- the last membership of the list
+abbrev pub membership_in : List Entry → Option Membership
+membership_in list = option_map (λ (m : LoggedMembership). m.membership) (last_membership None list)
 
 -- ---- what is written
 

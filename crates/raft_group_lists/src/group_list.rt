@@ -6,7 +6,7 @@ ghost use Rattle.raft_group_step.specs.Message.{Message};
 ghost use Rattle.raft_laws.specs.GroupWorld.{GroupWorld, Led, new_world};
 ghost use Rattle.raft_list_laws.specs.Accounts.{AreTrue, PartsAreFronts};
 ghost use Rattle.raft_list_laws.specs.Changes.{with_message, with_note, with_setup};
-ghost use Rattle.raft_group_lists.specs.Notes.{EndsWith, HasNoId, IsEnded, IsNotedAt, IsWithin, IsWrittenAt, accounts_of, list_to, no_notes};
+ghost use Rattle.raft_group_lists.specs.Notes.{EndsWith, HasNoId, IsEnded, IsNotedAt, IsWithin, IsWrittenAt, accounts_of, list_to, membership_in, no_notes};
 ghost use Rattle.raft_group_lists.specs.Facts.{AcceptsUpTo, IsNoteOf, own_place};
 ghost use Rattle.raft_group_lists.specs.Room.{HasRoom};
 
@@ -14,9 +14,9 @@ use crate::leads::last_of;
 use crate::notes::{Lead, Noted, Reached};
 use crate::room::{make_spares, widen};
 use crate::settle::learn_under;
-use crate::walks::{count_to, find_noted};
+use crate::walks::{count_to, find_noted, membership_to};
 use raft_quorums::voter_groups::VoterGroups;
-use raft_state::{BasicNode, Bytes, Entry, LeaderId, LogId, Vote};
+use raft_state::{BasicNode, Bytes, Entry, LeaderId, LogId, Membership, Vote};
 use std::alloc::{AllocError, Global};
 use std::marker::Model;
 
@@ -140,6 +140,14 @@ impl GroupList {
         ensures ends { EndsWith (list_to self.now.notes.noted (Some at)) result }
     {
         self.noted[at].entry.log_id
+    }
+
+    /// The last membership of the list that ends with the entry that is noted there, lent; none if it has none.
+    pub fn membership_at(&self, at: usize) -> Option<&Membership<u64, BasicNode>>
+        requires { at < length self.now.notes.noted }
+        ensures { option_copied result ≡ membership_in (list_to self.now.notes.noted (Some at)) }
+    {
+        membership_to(self.noted.as_slice(), Some(at))
     }
 
     /// An entry that a leader wrote behind the one that is noted there, or as the first of its list; answered is where it is
