@@ -19,7 +19,8 @@ use Rattle.raft_cluster_laws.proofs.Joining.{joins, one_event}
 use Rattle.raft_cluster_laws.proofs.NodesActing.{has_first}
 use Rattle.raft_cluster_laws.proofs.Stepping.{Goes}
 use Rattle.raft_group_lists.specs.Notes.{Notes, no_notes}
-use Rattle.raft_cluster_lists.specs.Keeping.{EventsKeepLists, GoesOn, HasListOf, KeepsList, KeptListsAreTheGroups, NewListsAreKept}
+use Rattle.raft_list_steps.specs.Lists.{HasListOf}
+use Rattle.raft_cluster_lists.specs.Keeping.{EventsKeepLists, GoesOn, KeepsList, KeptListsAreTheGroups, NewListsAreKept}
 use Rattle.raft_cluster_lists.specs.Lists.{AreSame}
 use Rattle.raft_cluster_lists.proofs.QuietEvents.{IsQuiet, crashes_are_quiet, halts_are_quiet, quiet_has}
 use Rattle.raft_cluster_lists.proofs.SameNotes.{has_list, none_noted, same_has}

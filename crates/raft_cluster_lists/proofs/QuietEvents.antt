@@ -10,9 +10,8 @@ use Rattle.raft_laws.specs.GroupRun.{ended, happens, led_after, outcome_of, sent
 use Rattle.raft_laws.specs.NodeEvent.{NodeEvent, Crashes, Halts, outcome_at, state_after}
 use Rattle.raft_list_laws.specs.Changes.{with_setup}
 use Rattle.raft_group_lists.specs.Notes.{Notes}
-use Rattle.raft_list_steps.specs.Lists.{IsListOf}
+use Rattle.raft_list_steps.specs.Lists.{HasListOf, IsListOf, IsSetUpAhead}
 use Rattle.raft_list_steps.proofs.EventLemmas.{at_nodes, list_at_nodes, same_but_nodes}
-use Rattle.raft_cluster_lists.specs.Keeping.{HasListOf, IsSetUpAhead}
 
 -- a world that differs from the other in its nodes alone
 pub record IsQuiet (w v : GroupWorld) : Type 0 where

@@ -8,10 +8,9 @@ use Rattle.raft_laws.proofs.Counts.{contains_among}
 use Rattle.raft_list_laws.specs.Accounts.{AreTrue}
 use Rattle.raft_list_laws.specs.Changes.{with_setup}
 use Rattle.raft_group_lists.specs.Notes.{Notes, accounts_of, no_notes}
-use Rattle.raft_list_steps.specs.Lists.{IsListOf}
+use Rattle.raft_list_steps.specs.Lists.{HasListOf, IsListOf, IsSetUpAhead}
 use Rattle.raft_list_steps.proofs.RunLemmas.{nothing_noted, same_list}
 use Rattle.raft_cluster_lists.specs.Lists.{AreSame}
-use Rattle.raft_cluster_lists.specs.Keeping.{HasListOf, IsSetUpAhead}
 
 pub same_has : (s t : Notes) (w : GroupWorld) → AreSame s t → HasListOf s w → HasListOf t w
 same_has s t w same has =

@@ -1,37 +1,30 @@
 -- What a cluster keeps of a group's list: whichever of the states that its nodes may be in they are in, its history leads to a
 -- world of which that is the list.
 use Rattle.std.specs.Prelude.{◌≡◌, ◌⊎◌, ℕ, List, [], ◌∷◌, ◌++◌, None, Contains}
-use Rattle.raft_group_step.specs.Values.{Membership}
 use Rattle.raft_laws.specs.declared.world_event.WorldEvent.{WorldEvent}
 use Rattle.raft_laws.specs.BallotLists.{with_value}
+use Rattle.raft_laws.specs.GroupRun.{outcome_of}
 use Rattle.raft_laws.specs.GroupWorld.{GroupWorld, NodeState}
+use Rattle.raft_laws.specs.GroupWorld.{Recorded as GroupRecorded}
 use Rattle.raft_laws.specs.OneList.{AreNodeIds}
 use Rattle.raft_laws.specs.Settled.{group_list}
 use Rattle.raft_machines.specs.Machine.{MachineRules}
-use Rattle.raft_headline.specs.ClusterEvent.{Recorded}
+use Rattle.raft_headline.specs.ClusterEvent.{Recorded, is_stopped}
 use Rattle.raft_headline.specs.Headline.{KeepsHeadline}
 use Rattle.raft_headline.specs.Machines.{Replicas, new_replicas}
 use Rattle.raft_headline.specs.Replaying.{OwnStep, ReplaysFor}
 use Rattle.raft_headline.specs.Seen.{Seen, Passed, Own, Halted, Crashed, seen_by}
 use Rattle.raft_cluster_laws.specs.Acts.{EventLeads}
 use Rattle.raft_cluster_laws.specs.Kept.{AreAmong, Candidates, LeadsTo, new_candidates}
-use Rattle.raft_list_laws.specs.Changes.{with_setup}
 use Rattle.raft_group_lists.specs.Notes.{Notes, accounts_of, no_notes}
-use Rattle.raft_list_steps.specs.Lists.{IsListOf}
+use Rattle.raft_list_steps.specs.declared.report.GroupReport.{GroupReport}
+use Rattle.raft_list_steps.specs.Lists.{HasListOf, IsListOf}
+use Rattle.raft_list_steps.specs.Reports.{Hears, IsHeard, IsReportOf}
 use Rattle.raft_cluster_lists.specs.Lists.{AreSame}
 
--- ---- a world
-
--- a set-up that stopped is heard, too. In this world it wasn't taken: then nobody led yet
-pub record IsSetUpAhead (s : Notes) (w : GroupWorld) : Type 0 where
-  pub none : w.setup ≡ None
-  pub unled : w.led ≡ []
-  pub membership : Membership
-  pub list : IsListOf s (with_setup w membership)
-
--- this is noted of the group in the world
-abbrev pub HasListOf : Notes → GroupWorld → Type 0
-HasListOf s w = IsListOf s w ⊎ IsSetUpAhead s w
+-- the event as one of the group, with what became of it there
+abbrev pub group_record : WorldEvent → Recorded → GroupWorld → GroupRecorded
+group_record e r w = record { event = e; outcome = outcome_of w e (is_stopped r.outcome) }
 
 module _ (rules : MachineRules) (ids : List ℕ) (h : ℕ) where
   -- ---- a history
@@ -65,6 +58,11 @@ module _ (rules : MachineRules) (ids : List ℕ) (h : ℕ) where
   GoesOn history r n olds news s next (Halted m) = AreSame s next
   GoesOn history r n olds news s next (Crashed m) = AreSame s next
 
+  -- a report says what an event of the group did, wherever that leads from
+  abbrev pub IsReported : List Recorded → Recorded → WorldEvent → ℕ → List NodeState → List NodeState → GroupReport → Type 0
+  IsReported history r e n olds news report =
+      (old new : Replicas) → IsOwnEvent history r e n olds news old new → IsReportOf report old.world (group_record e r old.world) new.world
+
 -- ---- the laws
 
 -- of a new cluster nothing is noted
@@ -87,3 +85,11 @@ KeptListsAreTheGroups =
     → KeepsList rules ids h candidates history s
     → (states : ℕ → NodeState) → AreAmong candidates states
     → (leads : LeadsTo rules ids h history states) × KeepsHeadline rules ids h history leads.end × ((accounts_of s).list ≡ group_list leads.end.world)
+
+-- what is noted behind a report goes on, and the list before the event is a front of the one behind it
+abbrev pub ReportsGoOn : Type 0
+ReportsGoOn =
+    (rules : MachineRules) (ids : List ℕ) → AreNodeIds ids → (h : ℕ) (history : List Recorded) (r : Recorded) (e : WorldEvent)
+    → (n : ℕ) (olds news : List NodeState) (s next : Notes) (report : GroupReport)
+    → IsReported rules ids h history r e n olds news report → Hears s report next
+    → (old new : Replicas) → IsOwnEvent rules ids h history r e n olds news old new → IsListOf s old.world → IsHeard s new.world next

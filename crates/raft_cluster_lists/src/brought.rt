@@ -96,7 +96,7 @@ fn written_by(
         GroupCall::Propose { command, .. } => Ok(Some(EntryPayload::Normal(command.clone()?))),
         GroupCall::ChangeMembership { change, .. } => {
             let changed = changed_by(alloc, list, vote, change)?;
-            Ok(changed.map(EntryPayload::Membership))
+            Ok(changed.map(|new| EntryPayload::Membership(new)))
         }
         GroupCall::Initialize { .. }
         | GroupCall::Elect

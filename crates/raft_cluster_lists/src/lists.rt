@@ -2,7 +2,7 @@
 ghost use Rattle.std.specs.Prelude.{◌≡◌, ◌≢◌, ℕ, [], length, slice_get, OnOk};
 ghost use Rattle.std.specs.Option.{option_copied};
 ghost use Rattle.raft_group_lists.specs.Notes.{accounts_of};
-ghost use Rattle.raft_list_steps.specs.Reports.{Hears};
+ghost use Rattle.raft_list_steps.specs.Reports.{Hears, HearsAhead};
 ghost use Rattle.raft_cluster_lists.specs.Lists.{AreSame, HasRoomFor, notes_in};
 
 use crate::kept::KeptGroup;
@@ -59,6 +59,7 @@ impl ClusterLists {
     pub fn hear(&mut self, group: u64, report: GroupReport)
         requires { HasRoomFor self.old group }
         ensures hears { Hears (notes_in self.old group) report (notes_in self.new group) }
+        ensures ahead { HearsAhead (notes_in self.old group) report (notes_in self.new group) }
         ensures others { (other : ℕ) → other ≢ group → notes_in self.new other ≡ notes_in self.old other }
     {
         if let Some(kept) = self.groups.get_mut(&group) {

@@ -1,3 +1,4 @@
+mod MembershipLemmas
 mod WalkLemmas
 mod LeadLemmas
 mod ListLemmas

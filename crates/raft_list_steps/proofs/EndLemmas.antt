@@ -3,6 +3,7 @@ use Rattle.std.specs.Prelude.{◌≡◌, ◌⊎◌, ℕ, suc, ◌<◌, List, [],
 use Rattle.std.proofs.Common.{inl, inr, sym, ap, ◌∙◌, subst, arith, ⊎_elim, length-append}
 use Rattle.std.proofs.lemmas.Bool.{cases_lt}
 use Rattle.raft_values.specs.declared.vote.Vote.{Vote}
+use Rattle.raft_values.specs.declared.log_id.LogId.{LogId}
 use Rattle.raft_group_step.specs.Values.{Entry, EntryPayload, Membership, entry_of}
 use Rattle.raft_laws.specs.GroupWorld.{GroupWorld, Led}
 use Rattle.raft_laws.proofs.BallotAgreement.{slice_get-append, slice_get_end}

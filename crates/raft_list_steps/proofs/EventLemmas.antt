@@ -12,10 +12,11 @@ use Rattle.raft_laws.specs.NodeEvent.{NodeEvent, state_after}
 use Rattle.raft_laws.specs.OneList.{IsGroupHistory}
 use Rattle.raft_laws.specs.Settled.{group_list}
 use Rattle.raft_laws.proofs.GroupList.{goes_on, list_grows}
+use Rattle.raft_laws.proofs.Counts.{contains_among}
 use Rattle.raft_laws.proofs.Histories.{histories-join}
 use Rattle.raft_laws.proofs.WorldStart.{founded}
 use Rattle.raft_list_laws.specs.Accounts.{PartsAreFronts}
-use Rattle.raft_list_laws.specs.Changes.{with_note}
+use Rattle.raft_list_laws.specs.Changes.{with_note, with_setup}
 use Rattle.raft_list_laws.proofs.Fronts.{parts_of_histories}
 use Rattle.raft_list_laws.proofs.Matching.{noted_lists_agree}
 use Rattle.raft_list_laws.proofs.OwnEntries.{own_entries_come_last}
@@ -23,8 +24,9 @@ use Rattle.raft_list_laws.proofs.SetUps.{nobody_led_before}
 use Rattle.raft_group_lists.specs.Notes.{Notes, accounts_of, list_to}
 use Rattle.raft_list_steps.specs.declared.report.GroupReport.{GroupReport}
 use Rattle.raft_list_facts.specs.declared.leading.Leading.{Leading}
-use Rattle.raft_list_steps.specs.Lists.{HasFirst, IsKnown, IsLedFront, IsListOf, IsSetUpAlone}
-use Rattle.raft_list_steps.specs.Reports.{Hears, IsBehind, IsHeard, IsLeadOf, IsReportOf, SaysLead, first_setup}
+use Rattle.raft_list_steps.specs.declared.report.SetUp.{SetUp}
+use Rattle.raft_list_steps.specs.Lists.{HasListOf, IsKnown, IsListOf, IsSetUpAhead}
+use Rattle.raft_list_steps.specs.Reports.{Hears, HearsAhead, IsBehind, IsHeard, IsLeadOf, IsReportAhead, IsReportOf, SaysLead, SaysSetUp, accepted_by, first_setup, listed}
 use Rattle.raft_list_steps.specs.Steps.{Accepts, AreNext, IsNext, IsUnled, ListsAgree, MayLead, SetsUp, with_first, with_messages, with_notes}
 use Rattle.raft_list_steps.proofs.ListFacts.{last_noted}
 use Rattle.raft_list_steps.proofs.MessageLemmas.{fronts_before_all, with_messages_led, with_messages_sent, with_messages_setup}
@@ -202,18 +204,30 @@ module _ (ids : List ℕ) (rs : List Recorded) (w w₁ w' : GroupWorld) (h : IsG
         set_up = is_set_up.1;
       }
 
--- ---- all of it
+-- ---- the note and the messages, behind the set-up
 
-module _ (s s₁ s₂ s₃ : Notes) (report : GroupReport) (up : SetsUp s report.set_up s₁) (lead : MayLead s₁ report.node report.leading report.written s₂) (accept : Accepts s₂ report.node report.accepted s₃) where
-  module _ (ids : List ℕ) (w : GroupWorld) (r : Recorded) (w' : GroupWorld) (behind : IsBehind ids w r w') (is : IsReportOf report w r w') (h : IsListOf s w) where
-    abbrev first : Option Membership
-    first = first_setup w.setup r.event r.outcome
+-- a history leads to the world, and its next event to the other one, by this report; between them stands a world with the set-up
+record IsPassed (ids : List ℕ) (w : GroupWorld) (r : Recorded) (report : GroupReport) (w' w₁ : GroupWorld) : Type 0 where
+  behind : IsBehind ids w r w'
+  changed : IsChanged w r.event r.outcome report.node w'
+  leads : SaysLead report.leading report.written w w' (led_after r.outcome report.node (w'.nodes report.node))
+  senders : (m : Message) → Contains (sent_in r.outcome) m → m.sender ≡ report.node
+  accepted : accepted_by (sent_in r.outcome) ≡ listed report.accepted
+  led : w₁.led ≡ w.led
+  messages : w₁.messages ≡ w.messages
+  setup : w₁.setup ≡ w'.setup
 
+later : (ids : List ℕ) (w : GroupWorld) (r : Recorded) (w' : GroupWorld) (behind : IsBehind ids w r w') → IsGroupHistory ids (behind.history ++ r ∷ []) w'
+later ids w r w' behind =
+    record {
+      node_ids = behind.before.node_ids;
+      replays = histories-join behind.history (r ∷ []) (new_world ids) w w' behind.before.replays behind.event;
+    }
+
+module _ (s₁ s₂ s₃ : Notes) (report : GroupReport) (lead : MayLead s₁ report.node report.leading report.written s₂) (accept : Accepts s₂ report.node report.accepted s₃) where
+  module _ (ids : List ℕ) (w : GroupWorld) (r : Recorded) (w' w₁ : GroupWorld) (is : IsPassed ids w r report w' w₁) (h : IsListOf s₁ w₁) where
     abbrev notes : List Led
     notes = led_after r.outcome report.node (w'.nodes report.node)
-
-    abbrev w₁ : GroupWorld
-    w₁ = with_first w first
 
     abbrev w₂ : GroupWorld
     w₂ = with_notes w₁ notes
@@ -221,39 +235,19 @@ module _ (s s₁ s₂ s₃ : Notes) (report : GroupReport) (up : SetsUp s report
     abbrev w₃ : GroupWorld
     w₃ = with_messages w₂ (sent_in r.outcome)
 
-    changed : IsChanged w r.event r.outcome report.node w'
-    changed = changed_by ids w r w' report.node behind is.node
-
-    later : IsGroupHistory ids (behind.history ++ r ∷ []) w'
-    later =
-        record {
-          node_ids = behind.before.node_ids;
-          replays = histories-join behind.history (r ∷ []) (new_world ids) w w' behind.before.replays behind.event;
-        }
-
-    set_up_same : w₁.setup ≡ w'.setup
-    set_up_same = first_set_up w r.event r.outcome ∙ sym changed.setup
-
     noted_same : w'.led ≡ w₁.led ++ notes
-    noted_same = changed.led ∙ ap (λ (ls : List Led). ls ++ notes) (sym (first_led w first))
+    noted_same = is.changed.led ∙ ap (λ (ls : List Led). ls ++ notes) (sym is.led)
 
     same : w' ≡ at_nodes w'.nodes w₃
     same =
         same_but_nodes w₃ w'
         (with_messages_sent w₂ (sent_in r.outcome)
-        ∙ ap (λ (ms : List Message). ms ++ sent_in r.outcome) (notes_messages w₁ notes ∙ first_messages w first) ∙ sym changed.messages)
-        (with_messages_setup w₂ (sent_in r.outcome) ∙ notes_setup w₁ notes ∙ set_up_same)
+        ∙ ap (λ (ms : List Message). ms ++ sent_in r.outcome) (notes_messages w₁ notes ∙ is.messages) ∙ sym is.changed.messages)
+        (with_messages_setup w₂ (sent_in r.outcome) ∙ notes_setup w₁ notes ∙ is.setup)
         (with_messages_led w₂ (sent_in r.outcome) ∙ notes_led w₁ notes ∙ sym noted_same)
 
     fronts : PartsAreFronts (group_list w') w₃
-    fronts = let there = subst (PartsAreFronts (group_list w')) same (parts_of_histories ids (behind.history ++ r ∷ []) w' later) in λ l c. there l c
-
-    unled : IsUnled w first
-    unled m new =
-        ⊎_elim
-        (λ old. absurd (let no : None ≡ Some m = sym old.0 ∙ new in cc))
-        (λ x. (x.1, nobody_led_before ids behind.history w behind.before x.1))
-        (first_cases w.setup r.event r.outcome)
+    fronts = let there = subst (PartsAreFronts (group_list w')) same (parts_of_histories ids (is.behind.history ++ r ∷ []) w' (later ids w r w' is.behind)) in λ l c. there l c
 
     are_next : AreNext report.leading report.written report.node w₁ notes
     are_next = go report.leading is.leads
@@ -263,28 +257,136 @@ module _ (s s₁ s₂ s₃ : Notes) (report : GroupReport) (up : SetsUp s report
         go (Some x) l = (
           l.0,
           l.1,
-          is_next ids (behind.history ++ r ∷ []) w w₁ w' later (first_led w first) set_up_same l.0 (noted_same ∙ ap (λ (ls : List Led). w₁.led ++ ls) l.1) x report.written l.2,
+          is_next ids (is.behind.history ++ r ∷ []) w w₁ w' (later ids w r w' is.behind) is.led is.setup l.0 (noted_same ∙ ap (λ (ls : List Led). w₁.led ++ ls) l.1) x report.written l.2,
           its_node r.outcome report.node (w'.nodes report.node) l.0 l.1,
         )
 
-    behind_all : IsListOf s₃ w₃
-    behind_all =
+    passed : IsListOf s₃ w'
+    passed =
+        let there =
         accept w₂ (sent_in r.outcome) (group_list w') fronts is.senders is.accepted
-        (lead w₁ notes (group_list w') are_next (fronts_before_all (group_list w') w₂ (sent_in r.outcome) fronts)
-        (up w first is.set_up unled h))
+        (lead w₁ notes (group_list w') are_next (fronts_before_all (group_list w') w₂ (sent_in r.outcome) fronts) h)
+        in
+        subst (IsListOf s₃) (sym same) (list_at_nodes s₃ w₃ w'.nodes there)
+
+-- ---- all of it
+
+module _ (s s₁ s₂ s₃ : Notes) (report : GroupReport) (up : SetsUp s report.set_up s₁) (lead : MayLead s₁ report.node report.leading report.written s₂) (accept : Accepts s₂ report.node report.accepted s₃) where
+  module _ (ids : List ℕ) (w : GroupWorld) (r : Recorded) (w' : GroupWorld) (behind : IsBehind ids w r w') (is : IsReportOf report w r w') (h : IsListOf s w) where
+    abbrev first : Option Membership
+    first = first_setup w.setup r.event r.outcome
+
+    changed : IsChanged w r.event r.outcome report.node w'
+    changed = changed_by ids w r w' report.node behind is.node
+
+    unled : IsUnled w first
+    unled m new =
+        ⊎_elim
+        (λ old. absurd (let no : None ≡ Some m = sym old.0 ∙ new in cc))
+        (λ x. (x.1, nobody_led_before ids behind.history w behind.before x.1))
+        (first_cases w.setup r.event r.outcome)
+
+    there : IsListOf s₃ w'
+    there =
+        passed s₁ s₂ s₃ report lead accept ids w r w' (with_first w first)
+        (record {
+          behind = behind;
+          changed = changed;
+          leads = is.leads;
+          senders = is.senders;
+          accepted = is.accepted;
+          led = first_led w first;
+          messages = first_messages w first;
+          setup = first_set_up w r.event r.outcome ∙ sym changed.setup;
+        })
+        (up w first is.set_up unled h)
 
     grown : AgreeBelow (length (group_list w)) (group_list w) (group_list w')
     grown =
         list_grows w w' (goes_on (r ∷ []) w w' behind.event) (founded ids behind.before.node_ids behind.history w behind.before.replays)
-        (founded ids later.node_ids (behind.history ++ r ∷ []) w' later.replays)
+        (founded ids behind.before.node_ids (behind.history ++ r ∷ []) w' (later ids w r w' behind).replays)
 
     is_heard : IsHeard s w' s₃
     is_heard =
-        let truth : IsListOf s₃ w' = subst (IsListOf s₃) (sym same) (list_at_nodes s₃ w₃ w'.nodes behind_all) in
         record {
-          truth = truth;
-          grows = subst (λ (xs : List Entry). AgreeBelow (length xs) xs (accounts_of s₃).list) (sym h.truth.list) (subst (AgreeBelow (length (group_list w)) (group_list w)) (sym truth.truth.list) grown);
+          truth = there;
+          grows = subst (λ (xs : List Entry). AgreeBelow (length xs) xs (accounts_of s₃).list) (sym h.truth.list) (subst (AgreeBelow (length (group_list w)) (group_list w)) (sym there.truth.list) grown);
         }
 
   pub hears : Hears s report s₃
   hears = λ ids w r w' behind is h. is_heard ids w r w' behind is h
+
+  -- ---- where a set-up was heard that wasn't taken
+
+  module _ (ids : List ℕ) (w : GroupWorld) (r : Recorded) (w' : GroupWorld) (behind : IsBehind ids w r w') (ahead : IsSetUpAhead s w) (is : IsReportAhead report w r w' ahead.membership) where
+    abbrev m : Membership
+    m = ahead.membership
+
+    abbrev u₁ : GroupWorld
+    u₁ = with_setup w m
+
+    changed_ahead : IsChanged w r.event r.outcome report.node w'
+    changed_ahead = changed_by ids w r w' report.node behind is.node
+
+    listed_there : IsListOf s₁ u₁
+    listed_there =
+        up u₁ None (subst (λ (o : Option SetUp). SaysSetUp o None) (sym is.set_up) refl) (λ x no. absurd (let e : None ≡ Some x = no in cc)) ahead.list
+
+    -- it is taken now
+    taken : (x : Membership) → w'.setup ≡ Some x → IsListOf s₃ w'
+    taken x up_now =
+        let first : first_setup w.setup r.event r.outcome ≡ Some x =
+        ap (λ (o : Option Membership). first_setup o r.event r.outcome) ahead.none
+        ∙ ap (λ (o : Option Membership). setup_after o r.event r.outcome) (sym ahead.none) ∙ sym changed_ahead.setup ∙ up_now
+        in
+        passed s₁ s₂ s₃ report lead accept ids w r w' u₁
+        (record {
+          behind = behind;
+          changed = changed_ahead;
+          leads = is.leads;
+          senders = is.senders;
+          accepted = is.accepted;
+          led = refl;
+          messages = refl;
+          setup = ap (λ (y : Membership). Some y) (sym (is.same x first)) ∙ sym up_now;
+        })
+        listed_there
+
+    -- it isn't: nobody leads
+    not_taken : w'.setup ≡ None → IsSetUpAhead s₃ w'
+    not_taken none =
+        let unled : w'.led ≡ [] = nobody_led_before ids (behind.history ++ r ∷ []) w' (later ids w r w' behind) none in
+        let nothing : led_after r.outcome report.node (w'.nodes report.node) ≡ [] =
+        sym (ap (λ (ls : List Led). ls ++ led_after r.outcome report.node (w'.nodes report.node)) ahead.unled) ∙ sym changed_ahead.led ∙ unled
+        in
+        let quiet : AreNext report.leading report.written report.node u₁ [] = leads_not report.leading (subst (SaysLead report.leading report.written w w') nothing is.leads) in
+        let no_fronts : PartsAreFronts [] u₁ = λ l c. absurd (contains_among [] l (subst (λ (ls : List Led). Contains ls l) ahead.unled c)) in
+        let u₃ : GroupWorld = with_messages u₁ (sent_in r.outcome) in
+        let fronts_there : PartsAreFronts [] u₃ = λ l c. absurd (contains_among [] l (subst (λ (ls : List Led). Contains ls l) (with_messages_led u₁ (sent_in r.outcome) ∙ ahead.unled) c)) in
+        let there : IsListOf s₃ u₃ = accept u₁ (sent_in r.outcome) [] fronts_there is.senders is.accepted (lead u₁ [] [] quiet no_fronts listed_there) in
+        let same : with_setup w' m ≡ at_nodes w'.nodes u₃ =
+        same_but_nodes u₃ (with_setup w' m)
+        (with_messages_sent u₁ (sent_in r.outcome) ∙ sym changed_ahead.messages)
+        (with_messages_setup u₁ (sent_in r.outcome))
+        (with_messages_led u₁ (sent_in r.outcome) ∙ ahead.unled ∙ sym unled)
+        in
+        record {
+          none = none;
+          unled = unled;
+          membership = m;
+          list = subst (IsListOf s₃) (sym same) (list_at_nodes s₃ u₃ w'.nodes there);
+        }
+      where
+        leads_not : (o : Option Leading) → SaysLead o report.written w w' [] → AreNext o report.written report.node u₁ []
+        leads_not None none = refl
+        leads_not (Some x) l = absurd (let no : [] ≡ l.0 ∷ [] = l.1 in cc)
+
+    has_behind : HasListOf s₃ w'
+    has_behind = go w'.setup refl
+      where
+        go : (o : Option Membership) → w'.setup ≡ o → HasListOf s₃ w'
+        go None none = inr (not_taken none)
+        go (Some x) up_now = inl (taken x up_now)
+
+  pub hears_ahead : HearsAhead s report s₃
+  hears_ahead = λ ids w r w' behind ahead is. has_behind ids w r w' behind ahead is

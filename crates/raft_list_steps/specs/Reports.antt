@@ -20,7 +20,7 @@ use Rattle.raft_list_laws.specs.Bases.{base_of}
 use Rattle.raft_group_lists.specs.Notes.{EndsWith, Notes, accounts_of}
 use Rattle.raft_list_steps.specs.declared.report.GroupReport.{GroupReport}
 use Rattle.raft_list_steps.specs.declared.report.SetUp.{SetUp}
-use Rattle.raft_list_steps.specs.Lists.{IsLedFront, IsListOf, setup_entry}
+use Rattle.raft_list_steps.specs.Lists.{HasListOf, IsLedFront, IsListOf, IsSetUpAhead, setup_entry}
 
 -- ---- the set-up
 
@@ -121,6 +121,20 @@ abbrev pub Hears : Notes → GroupReport → Notes → Type 0
 Hears s report next =
     (ids : List ℕ) (w : GroupWorld) (r : Recorded) (w' : GroupWorld) → IsBehind ids w r w' → IsReportOf report w r w'
     → IsListOf s w → IsHeard s w' next
+
+-- the same where a set-up was heard ahead: the report says of none, and the event takes none but that
+pub record IsReportAhead (report : GroupReport) (w : GroupWorld) (r : Recorded) (w' : GroupWorld) (m : Membership) : Type 0 where
+  pub node : (n : ℕ) (at : NodeEvent) → scene_of w r.event ≡ At n at → n ≡ report.node
+  pub set_up : report.set_up ≡ None
+  pub same : (first : Membership) → first_setup w.setup r.event r.outcome ≡ Some first → first ≡ m
+  pub leads : SaysLead report.leading report.written w w' (led_after r.outcome report.node (w'.nodes report.node))
+  pub senders : (m : Message) → Contains (sent_in r.outcome) m → m.sender ≡ report.node
+  pub accepted : accepted_by (sent_in r.outcome) ≡ listed report.accepted
+
+abbrev pub HearsAhead : Notes → GroupReport → Notes → Type 0
+HearsAhead s report next =
+    (ids : List ℕ) (w : GroupWorld) (r : Recorded) (w' : GroupWorld) → IsBehind ids w r w' → (ahead : IsSetUpAhead s w)
+    → IsReportAhead report w r w' ahead.membership → HasListOf next w'
 
 -- the reports of one event after another
 abbrev pub AreReportsOf : List ℕ → List GroupReport → GroupWorld → List Recorded → GroupWorld → Type 0

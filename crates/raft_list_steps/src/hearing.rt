@@ -1,7 +1,7 @@
 //! The list of a group behind an event.
 ghost use Rattle.std.specs.Prelude.{Some};
 ghost use Rattle.raft_group_lists.specs.Room.{HasRoom};
-ghost use Rattle.raft_list_steps.specs.Reports.{Hears};
+ghost use Rattle.raft_list_steps.specs.Reports.{Hears, HearsAhead};
 ghost use Rattle.raft_list_steps.specs.Steps.{Accepts, Leads, MayLead, SetsUp};
 
 use crate::report::{GroupReport, SetUp};
@@ -97,7 +97,8 @@ fn hear_acceptance(list: &mut GroupList, node: u64, accepted: Option<Acceptance>
 /// The list goes on with what is heard of one event. Room was found before it, so it can't fail.
 pub fn hear(list: &mut GroupList, report: GroupReport)
     requires { HasRoom list.old 2 2 }
-    ensures { Hears list.old.notes report list.new.notes }
+    ensures hears { Hears list.old.notes report list.new.notes }
+    ensures ahead { HearsAhead list.old.notes report list.new.notes }
 {
     let GroupReport {
         node,

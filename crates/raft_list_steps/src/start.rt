@@ -17,8 +17,9 @@ fn start_of(list: &GroupList, leading: &Leading) -> Option<usize>
     match list.last_of(&leading.vote) {
         Some(at) => Some(at),
         None => match &leading.base {
-            Base::Nothing | Base::Unknown => None,
+            Base::Nothing => None,
             Base::UpTo(id) => list.find(id),
+            Base::Unknown => None,
         },
     }
 }

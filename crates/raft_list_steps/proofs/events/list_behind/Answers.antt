@@ -7,4 +7,4 @@ loop-report-init c = nothing_noted c.new-list.result.notes c.new-list.ensures.tr
 pub loop-report-preserved : goal.loop-report-preserved
 loop-report-preserved c =
     heard_next c.loop-report.list.notes c.make_room.new.self.notes c.hear.new.list.notes c.loop-report.yielded c.in-Some.report
-    c.make_room.ensures.accounts c.make_room.ensures.noted c.hear.ensures c.loop-report.invariant
+    c.make_room.ensures.accounts c.make_room.ensures.noted c.hear.ensures.hears c.loop-report.invariant
