@@ -19,12 +19,13 @@ same_has s t w same has =
     (λ a. inr (record { none = a.none; unled = a.unled; membership = a.membership; list = same_list s t same.accounts same.noted (with_setup w a.membership) a.list }))
     has
 
--- where nobody led the list is empty, whatever the set-up
+-- where nobody led the list is empty
+pub unled_none : (w : GroupWorld) → w.led ≡ [] → group_list w ≡ []
+unled_none w none = ap (λ (ls : List Led). fold longer [] (map (settled_part w) ls)) none
+
+-- whatever the set-up
 unled_list : (w : GroupWorld) (m : Membership) → w.led ≡ [] → group_list (with_setup w m) ≡ group_list w
-unled_list w m unled = empty (with_setup w m) unled ∙ sym (empty w unled)
-  where
-    empty : (v : GroupWorld) → v.led ≡ [] → group_list v ≡ []
-    empty v none = ap (λ (ls : List Led). fold longer [] (map (settled_part v) ls)) none
+unled_list w m unled = unled_none (with_setup w m) unled ∙ sym (unled_none w unled)
 
 pub has_list : (s : Notes) (w : GroupWorld) → HasListOf s w → (accounts_of s).list ≡ group_list w
 has_list s w has =

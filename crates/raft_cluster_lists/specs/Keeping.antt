@@ -1,8 +1,8 @@
 -- What a cluster keeps of a group's list: whichever of the states that its nodes may be in they are in, its history leads to a
 -- world of which that is the list.
-use Rattle.std.specs.Prelude.{◌≡◌, ◌⊎◌, ℕ, List, [], ◌∷◌, ◌++◌, None, Contains}
+use Rattle.std.specs.Prelude.{◌≡◌, ℕ, List, [], ◌∷◌, ◌++◌, length, Contains}
 use Rattle.raft_laws.specs.declared.world_event.WorldEvent.{WorldEvent}
-use Rattle.raft_laws.specs.BallotLists.{with_value}
+use Rattle.raft_laws.specs.BallotLists.{AgreeBelow, with_value}
 use Rattle.raft_laws.specs.GroupRun.{outcome_of}
 use Rattle.raft_laws.specs.GroupWorld.{GroupWorld, NodeState}
 use Rattle.raft_laws.specs.GroupWorld.{Recorded as GroupRecorded}
@@ -18,8 +18,8 @@ use Rattle.raft_cluster_laws.specs.Acts.{EventLeads}
 use Rattle.raft_cluster_laws.specs.Kept.{AreAmong, Candidates, LeadsTo, new_candidates}
 use Rattle.raft_group_lists.specs.Notes.{Notes, accounts_of, no_notes}
 use Rattle.raft_list_steps.specs.declared.report.GroupReport.{GroupReport}
-use Rattle.raft_list_steps.specs.Lists.{HasListOf, IsListOf}
-use Rattle.raft_list_steps.specs.Reports.{Hears, IsHeard, IsReportOf}
+use Rattle.raft_list_steps.specs.Lists.{HasListOf, IsListOf, IsSetUpAhead}
+use Rattle.raft_list_steps.specs.Reports.{Hears, HearsAhead, IsReportAhead, IsReportOf}
 use Rattle.raft_cluster_lists.specs.Lists.{AreSame}
 
 -- the event as one of the group, with what became of it there
@@ -58,10 +58,12 @@ module _ (rules : MachineRules) (ids : List ℕ) (h : ℕ) where
   GoesOn history r n olds news s next (Halted m) = AreSame s next
   GoesOn history r n olds news s next (Crashed m) = AreSame s next
 
-  -- a report says what an event of the group did, wherever that leads from
-  abbrev pub IsReported : List Recorded → Recorded → WorldEvent → ℕ → List NodeState → List NodeState → GroupReport → Type 0
-  IsReported history r e n olds news report =
-      (old new : Replicas) → IsOwnEvent history r e n olds news old new → IsReportOf report old.world (group_record e r old.world) new.world
+  -- a report says what an event of the group did, wherever that leads from a world of which this is noted
+  pub record IsReported (history : List Recorded) (r : Recorded) (e : WorldEvent) (n : ℕ) (olds news : List NodeState) (s : Notes) (report : GroupReport) : Type 0 where
+    pub told : (old new : Replicas) → IsOwnEvent history r e n olds news old new → IsListOf s old.world
+        → IsReportOf report old.world (group_record e r old.world) new.world
+    pub ahead : (old new : Replicas) → IsOwnEvent history r e n olds news old new → (a : IsSetUpAhead s old.world)
+        → IsReportAhead report old.world (group_record e r old.world) new.world a.membership
 
 -- ---- the laws
 
@@ -86,10 +88,19 @@ KeptListsAreTheGroups =
     → (states : ℕ → NodeState) → AreAmong candidates states
     → (leads : LeadsTo rules ids h history states) × KeepsHeadline rules ids h history leads.end × ((accounts_of s).list ≡ group_list leads.end.world)
 
--- what is noted behind a report goes on, and the list before the event is a front of the one behind it
+-- what is noted goes on with what is heard of a report
 abbrev pub ReportsGoOn : Type 0
 ReportsGoOn =
     (rules : MachineRules) (ids : List ℕ) → AreNodeIds ids → (h : ℕ) (history : List Recorded) (r : Recorded) (e : WorldEvent)
     → (n : ℕ) (olds news : List NodeState) (s next : Notes) (report : GroupReport)
-    → IsReported rules ids h history r e n olds news report → Hears s report next
-    → (old new : Replicas) → IsOwnEvent rules ids h history r e n olds news old new → IsListOf s old.world → IsHeard s new.world next
+    → IsReported rules ids h history r e n olds news s report → Hears s report next → HearsAhead s report next
+    → GoesOn rules ids h history r n olds news s next (Own e)
+
+-- the list before the event is a front of the one behind it
+abbrev pub ReportsGrow : Type 0
+ReportsGrow =
+    (rules : MachineRules) (ids : List ℕ) → AreNodeIds ids → (h : ℕ) (history : List Recorded) (r : Recorded) (e : WorldEvent)
+    → (n : ℕ) (olds news : List NodeState) (s next : Notes) (report : GroupReport)
+    → IsReported rules ids h history r e n olds news s report → Hears s report next
+    → (old new : Replicas) → IsOwnEvent rules ids h history r e n olds news old new → HasListOf s old.world
+    → AgreeBelow (length (accounts_of s).list) (accounts_of s).list (accounts_of next).list

@@ -1,6 +1,6 @@
 //! How what is noted of each group is kept from event to event, and what it gives: laws, each the contract of a function without
 //! a body.
-ghost use Rattle.raft_cluster_lists.specs.Keeping.{EventsKeepLists, KeptListsAreTheGroups, NewListsAreKept, ReportsGoOn};
+ghost use Rattle.raft_cluster_lists.specs.Keeping.{EventsKeepLists, KeptListsAreTheGroups, NewListsAreKept, ReportsGoOn, ReportsGrow};
 
 /// Of a new cluster nothing is noted. An event that comes to one node keeps what is noted of a group, where it goes on as each
 /// own event asks: a report of what it did makes it go on so. Whichever of its candidates the nodes are in, the history keeps the
@@ -10,4 +10,5 @@ pub fn lists_are_kept()
     ensures events { EventsKeepLists }
     ensures lists { KeptListsAreTheGroups }
     ensures reports { ReportsGoOn }
+    ensures grow { ReportsGrow }
 {}

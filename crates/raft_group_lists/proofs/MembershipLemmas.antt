@@ -9,7 +9,7 @@ last_behind : (before : Option LoggedMembership) (list : List Entry) (e : Entry)
 last_behind before [] e = refl
 last_behind before (x ∷ xs) e = last_behind (membership_after before x.log_id x.payload) xs e
 
-abbrev membership_of : Option LoggedMembership → Option Membership
+abbrev pub membership_of : Option LoggedMembership → Option Membership
 membership_of m = option_map (λ (x : LoggedMembership). x.membership) m
 
 in_behind : (list : List Entry) (e : Entry) → membership_in (list ++ e ∷ []) ≡ membership_of (membership_after (last_membership None list) e.log_id e.payload)
@@ -21,6 +21,13 @@ membership_here list e m is =
     in_behind list e ∙ ap (λ (p : EntryPayload). membership_of (membership_after (last_membership None list) e.log_id p)) is
 
 -- it has none
-pub membership_past_blank : (list : List Entry) (e : Entry) → e.payload ≡ Blank → membership_in (list ++ e ∷ []) ≡ membership_in list
-membership_past_blank list e is =
-    in_behind list e ∙ ap (λ (p : EntryPayload). membership_of (membership_after (last_membership None list) e.log_id p)) is
+pub membership_past : (list : List Entry) (e : Entry) → ((m : Membership) → e.payload ≡ Members m → ⊥) → membership_in (list ++ e ∷ []) ≡ membership_in list
+membership_past list e other = in_behind list e ∙ go e.payload refl
+  where
+    after : EntryPayload → Option Membership
+    after p = membership_of (membership_after (last_membership None list) e.log_id p)
+
+    go : (p : EntryPayload) → e.payload ≡ p → after e.payload ≡ membership_in list
+    go Blank is = ap after is
+    go (Normal command) is = ap after is
+    go (Members m) is = absurd (other m is)

@@ -1,5 +1,5 @@
 use Rattle.raft_cluster_lists.proofs.ListsKept.{events_keep_lists, kept_lists_are_the_groups, new_lists_are_kept}
-use Rattle.raft_cluster_lists.proofs.OwnEvents.{reports_go_on}
+use Rattle.raft_cluster_lists.proofs.OwnEvents.{reports_go_on, reports_grow}
 use Rattle.raft_cluster_lists.proofs.keeping.lists_are_kept.Goals as goal
 
 pub returns-clause-new : goal.returns-clause-new
@@ -13,3 +13,6 @@ returns-clause-lists c = kept_lists_are_the_groups
 
 pub returns-clause-reports : goal.returns-clause-reports
 returns-clause-reports c = reports_go_on
+
+pub returns-clause-grow : goal.returns-clause-grow
+returns-clause-grow c = reports_grow
