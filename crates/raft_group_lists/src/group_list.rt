@@ -1,7 +1,7 @@
 //! The list of one group.
 ghost use Rattle.std.specs.Prelude.{◌≡◌, ⊤, ◌<◌, ◌++◌, ◌∷◌, ℕ, suc, List, [], Some, IfOk, IsOk, OnErr, OnOk, MatchOption, length, slice_get};
 ghost use Rattle.std.specs.Option.{option_copied};
-ghost use Rattle.raft_group_step.specs.Values.{Entry as ListEntry, Membership};
+ghost use Rattle.raft_group_step.specs.Values.{Entry as ListEntry, Membership as ListMembership};
 ghost use Rattle.raft_group_step.specs.Message.{Message};
 ghost use Rattle.raft_laws.specs.GroupWorld.{GroupWorld, Led, new_world};
 ghost use Rattle.raft_list_laws.specs.Accounts.{AreTrue, PartsAreFronts};
@@ -74,7 +74,7 @@ impl GroupList {
 
     /// The group is set up with these voter groups, before anyone led.
     pub fn set_up(&mut self, voters: VoterGroups<u64>)
-        ensures truth { (w : GroupWorld) (m : Membership) → AreTrue (accounts_of self.old.notes) w → w.led ≡ []
+        ensures truth { (w : GroupWorld) (m : ListMembership) → AreTrue (accounts_of self.old.notes) w → w.led ≡ []
             → m.configs ≡ voters → AreTrue (accounts_of self.new.notes) (with_setup w m) }
         ensures noted { self.new.notes.noted ≡ self.old.notes.noted }
         ensures room { (writes learns : ℕ) → HasRoom self.old writes learns → HasRoom self.new writes learns }
