@@ -1,3 +1,4 @@
+mod MembershipLemmas
 mod WalkLemmas
 mod LeadLemmas
 mod ListLemmas
@@ -5,4 +6,4 @@ mod KeepLemmas
 mod SetLemmas
 mod TruthLemmas
 mod RoomLemmas
-mod MessageLemmas
+pub mod MessageLemmas

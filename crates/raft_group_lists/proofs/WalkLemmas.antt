@@ -1,16 +1,17 @@
 -- Walks along what is noted, and what is settled of a list with one entry more.
-use Rattle.std.specs.Prelude.{◌≡◌, ℕ, zero, suc, ◌+◌, ◌-◌, ◌<◌, ◌≤◌, if◌then◌else◌, Bool, true, false, List, [], ◌∷◌, ◌++◌, length, take, drop, slice_get, slice_set, Option, Some, None, refl}
+use Rattle.std.specs.Prelude.{◌≡◌, ℕ, zero, suc, ◌+◌, ◌-◌, ◌<◌, ◌≤◌, if◌then◌else◌, Bool, true, false, List, [], ◌∷◌, ◌++◌, length, take, drop, slice_get, slice_set, Option, Some, None, MatchOption, refl}
 use Rattle.std.proofs.Common.{get_or, sym, ap, ◌∙◌, subst, arith, length-append, length-take-le, take_all, append_assoc}
 use Rattle.std.proofs.lemmas.Bool.{cond-false, cond-true}
 use Rattle.std.proofs.lemmas.List.{drop-set, take-append-le}
 use Rattle.std.proofs.Math.Seq.{drop-append_seam}
 use Rattle.std.proofs.lemmas.Option.{slice_get_read}
+use Rattle.raft_values.specs.declared.log_id.LogId.{LogId}
 use Rattle.raft_group_step.specs.Values.{Entry}
 use Rattle.raft_laws.specs.Settled.{count_to_last}
 use Rattle.raft_laws.proofs.BallotAgreement.{same_some, some_at}
 use Rattle.raft_laws.proofs.Counts.{count_from}
 use Rattle.raft_group_lists.specs.declared.notes.Noted.{Noted}
-use Rattle.raft_group_lists.specs.Notes.{AreJoined, AreWithin, IsWithin, before_in, count_in, count_to, entries_at, entry_in, front, list_to, settled_by}
+use Rattle.raft_group_lists.specs.Notes.{AreJoined, AreWithin, EndsWith, IsEnded, IsNotedAt, IsWithin, before_in, count_in, count_to, entries_at, entry_in, front, list_to, settled_by}
 
 module _ (noted : List Noted) (joined : AreJoined noted) where
   pub list_step : (k : ℕ) (x : Noted) → slice_get noted k ≡ Some x → list_to noted (Some k) ≡ list_to noted x.before ++ x.entry ∷ []
@@ -37,6 +38,17 @@ module _ (noted : List Noted) (joined : AreJoined noted) where
   -- a list has as many entries as is noted
   pub list_size : (at : Option ℕ) → IsWithin noted at → length (list_to noted at) ≡ count_to noted at
   list_size at w = sized (count_to noted at) at w (omega arith)
+
+-- the list that ends at an entry has its log id last
+pub noted_ends : (noted : List Noted) (joined : AreJoined noted) (id : LogId ℕ) (k : ℕ) → IsNotedAt noted id k → EndsWith (list_to noted (Some k)) id
+noted_ends noted joined id k n =
+    record { before = list_to noted n.one.before; last = n.one.entry; is = list_step noted joined k n.one n.there; of_id = n.of_id }
+
+pub some_ends : (noted : List Noted) (joined : AreJoined noted) (at : Option ℕ) → IsWithin noted at → MatchOption at (list_to noted at ≡ []) (λ k. IsEnded (list_to noted (Some k)))
+some_ends noted joined None w = refl
+some_ends noted joined (Some k) w =
+    let x = some_at noted k (w k refl) in
+    (x.0.entry.log_id, noted_ends noted joined x.0.entry.log_id k (record { one = x.0; there = x.1; of_id = refl }))
 
 pub within_some : (noted : List Noted) (k : ℕ) → k < length noted → IsWithin noted (Some k)
 within_some noted k l j e = let same = same_some e in omega arith

@@ -1,12 +1,12 @@
 -- What is noted of a group's leaders, and the accounts that it stands for.
 use Rattle.std.specs.Prelude.{◌≡◌, ℕ, zero, suc, ◌<◌, ◌≤◌, ◌==◌, ◌&&◌, ◌||◌, nat_le, if◌then◌else◌, Bool, false, List, []}
-use Rattle.std.specs.Prelude.{◌∷◌, ◌++◌, length, take, drop, slice_get, Option, Some, None}
+use Rattle.std.specs.Prelude.{◌∷◌, ◌++◌, length, take, drop, slice_get, Option, Some, None, option_map}
 use Rattle.std.specs.List.{list_any}
 use Rattle.raft_values.specs.declared.vote.LeaderId.{LeaderId}
 use Rattle.raft_values.specs.declared.vote.Vote.{Vote}
 use Rattle.raft_values.specs.declared.log_id.LogId.{LogId}
 use Rattle.raft_quorums.specs.Quorum.{is_quorum}
-use Rattle.raft_group_step.specs.Values.{Entry, is_written_by, vote_eq}
+use Rattle.raft_group_step.specs.Values.{Entry, LoggedMembership, Membership, is_written_by, last_membership, vote_eq}
 use Rattle.raft_laws.specs.Settled.{count_to_last}
 use Rattle.raft_list_laws.specs.Accounts.{Accounts, settled_of}
 use Rattle.raft_list_laws.specs.Changes.{GoesOn}
@@ -138,6 +138,10 @@ accounts_of s =
 abbrev pub notes_of : List (List ℕ) → List Noted → List Lead → List ℕ → Notes
 notes_of voters noted leads listed = record { voters = voters; noted = noted; leads = leads; listed = listed }
 
+-- nothing is noted
+abbrev pub no_notes : Notes
+no_notes = notes_of [] [] [] []
+
 -- where the leader's list ends, by what is said of it and by what was noted
 abbrev pub end_or : Option ℕ → Option ℕ → Option ℕ
 end_or None known = known
@@ -188,3 +192,28 @@ pub record IsNotedAt (noted : List Noted) (id : LogId ℕ) (at : ℕ) : Type 0 w
 -- none is noted
 abbrev pub HasNoId : List Noted → LogId ℕ → Type 0
 HasNoId noted id = (at : ℕ) → IsNotedAt noted id at → ⊥
+
+-- ---- the membership in force
+
+-- the last membership of the list
+abbrev pub membership_in : List Entry → Option Membership
+membership_in list = option_map (λ (m : LoggedMembership). m.membership) (last_membership None list)
+
+-- ---- what is written
+
+-- one entry more is noted, behind the others
+pub record IsWrittenAt (noted : List Noted) (entry : Entry) (at : ℕ) (more : List Noted) : Type 0 where
+  pub one : Noted
+  pub of_entry : one.entry ≡ entry
+  pub place : at ≡ length noted
+  pub behind : more ≡ noted ++ one ∷ []
+
+-- the last entry of the list has this log id
+pub record EndsWith (list : List Entry) (id : LogId ℕ) : Type 0 where
+  pub before : List Entry
+  pub last : Entry
+  pub is : list ≡ before ++ last ∷ []
+  pub of_id : last.log_id ≡ id
+
+abbrev pub IsEnded : List Entry → Type 0
+IsEnded list = (id : LogId ℕ) × EndsWith list id

@@ -1,12 +1,12 @@
 //! The list of one group.
-ghost use Rattle.std.specs.Prelude.{◌≡◌, ◌<◌, ◌++◌, ◌∷◌, ℕ, suc, List, [], Some, IfOk, IsOk, OnErr, OnOk, MatchOption, length, slice_get};
+ghost use Rattle.std.specs.Prelude.{◌≡◌, ⊤, ◌<◌, ◌++◌, ◌∷◌, ℕ, suc, List, [], Some, IfOk, IsOk, OnErr, OnOk, MatchOption, length, slice_get};
 ghost use Rattle.std.specs.Option.{option_copied};
-ghost use Rattle.raft_group_step.specs.Values.{Entry as ListEntry, Membership};
+ghost use Rattle.raft_group_step.specs.Values.{Entry as ListEntry, Membership as ListMembership};
 ghost use Rattle.raft_group_step.specs.Message.{Message};
 ghost use Rattle.raft_laws.specs.GroupWorld.{GroupWorld, Led, new_world};
 ghost use Rattle.raft_list_laws.specs.Accounts.{AreTrue, PartsAreFronts};
 ghost use Rattle.raft_list_laws.specs.Changes.{with_message, with_note, with_setup};
-ghost use Rattle.raft_group_lists.specs.Notes.{HasNoId, IsNotedAt, IsWithin, accounts_of, list_to};
+ghost use Rattle.raft_group_lists.specs.Notes.{EndsWith, HasNoId, IsEnded, IsNotedAt, IsWithin, IsWrittenAt, accounts_of, list_to, membership_in, no_notes};
 ghost use Rattle.raft_group_lists.specs.Facts.{AcceptsUpTo, IsNoteOf, own_place};
 ghost use Rattle.raft_group_lists.specs.Room.{HasRoom};
 
@@ -14,9 +14,9 @@ use crate::leads::last_of;
 use crate::notes::{Lead, Noted, Reached};
 use crate::room::{make_spares, widen};
 use crate::settle::learn_under;
-use crate::walks::{count_to, find_noted};
+use crate::walks::{count_to, find_noted, membership_to};
 use raft_quorums::voter_groups::VoterGroups;
-use raft_state::{BasicNode, Bytes, Entry, LeaderId, LogId, Vote};
+use raft_state::{BasicNode, Bytes, Entry, LeaderId, LogId, Membership, Vote};
 use std::alloc::{AllocError, Global};
 use std::marker::Model;
 
@@ -58,7 +58,9 @@ fn own_place(id: &LogId<u64>, leader: &LeaderId<u64>) -> Option<u64>
 impl GroupList {
     /// Nothing is noted yet: true of a group's nodes before their first event. Takes no memory.
     pub fn new(alloc: Global) -> GroupList
-        ensures { (ids : List ℕ) → AreTrue (accounts_of result.notes) (new_world ids) }
+        ensures truth { (ids : List ℕ) → AreTrue (accounts_of result.notes) (new_world ids) }
+        ensures noted { result.notes.noted ≡ [] }
+        ensures notes { result.notes ≡ no_notes }
     {
         GroupList {
             alloc,
@@ -72,7 +74,7 @@ impl GroupList {
 
     /// The group is set up with these voter groups, before anyone led.
     pub fn set_up(&mut self, voters: VoterGroups<u64>)
-        ensures truth { (w : GroupWorld) (m : Membership) → AreTrue (accounts_of self.old.notes) w → w.led ≡ []
+        ensures truth { (w : GroupWorld) (m : ListMembership) → AreTrue (accounts_of self.old.notes) w → w.led ≡ []
             → m.configs ≡ voters → AreTrue (accounts_of self.new.notes) (with_setup w m) }
         ensures noted { self.new.notes.noted ≡ self.old.notes.noted }
         ensures room { (writes learns : ℕ) → HasRoom self.old writes learns → HasRoom self.new writes learns }
@@ -118,15 +120,34 @@ impl GroupList {
     pub fn last_of(&self, vote: &Vote<u64>) -> Option<usize>
         ensures within { IsWithin self.now.notes.noted result }
         ensures list { list_to self.now.notes.noted result ≡ (accounts_of self.now.notes).latest vote.now }
+        ensures ends { MatchOption result ((accounts_of self.now.notes).latest vote.now ≡ []) (λ at. IsEnded (list_to self.now.notes.noted (Some at))) }
     {
         last_of(self.leads.as_slice(), vote)
     }
 
     /// Where an entry of this log id was noted last; none if none is noted.
     pub fn find(&self, id: &LogId<u64>) -> Option<usize>
-        ensures { MatchOption result (HasNoId self.now.notes.noted id.now) (IsNotedAt self.now.notes.noted id.now) }
+        ensures noted { MatchOption result (HasNoId self.now.notes.noted id.now) (IsNotedAt self.now.notes.noted id.now) }
+        ensures ends { MatchOption result ⊤ (λ at. EndsWith (list_to self.now.notes.noted (Some at)) id.now) }
     {
         find_noted(self.noted.as_slice(), id)
+    }
+
+    /// The log id of the entry that is noted there, with which that leader's list ends.
+    pub fn id_at(&self, at: usize) -> LogId<u64>
+        requires { at < length self.now.notes.noted }
+        ensures noted { IsNotedAt self.now.notes.noted result at }
+        ensures ends { EndsWith (list_to self.now.notes.noted (Some at)) result }
+    {
+        self.noted[at].entry.log_id
+    }
+
+    /// The last membership of the list that ends with the entry that is noted there, lent; none if it has none.
+    pub fn membership_at(&self, at: usize) -> Option<&Membership<u64, BasicNode>>
+        requires { at < length self.now.notes.noted }
+        ensures { option_copied result ≡ membership_in (list_to self.now.notes.noted (Some at)) }
+    {
+        membership_to(self.noted.as_slice(), Some(at))
     }
 
     /// An entry that a leader wrote behind the one that is noted there, or as the first of its list; answered is where it is
@@ -141,6 +162,7 @@ impl GroupList {
         ensures within { IfOk result (λ at. at < length self.new.notes.noted) }
         ensures list { IfOk result (λ at. list_to self.new.notes.noted (Some at) ≡ list_to self.old.notes.noted before ++ entry ∷ []) }
         ensures others { (at : ℕ) → at < length self.old.notes.noted → list_to self.new.notes.noted (Some at) ≡ list_to self.old.notes.noted (Some at) }
+        ensures noted { IfOk result (λ at. IsWrittenAt self.old.notes.noted entry at self.new.notes.noted) }
         ensures err { OnErr result (self.new ≡ self.old) }
         ensures room { (writes learns : ℕ) → HasRoom self.old (suc writes) learns → IsOk result × HasRoom self.new writes learns }
     {

@@ -1,10 +1,11 @@
 //! Walks from an entry to those before it in its leader's list.
 ghost use Rattle.std.specs.Prelude.{◌≡◌, ◌<◌, ◌≤◌, drop, length, take, MatchOption, Some};
-ghost use Rattle.raft_group_lists.specs.Notes.{AreJoined, AreWithin, HasNoId, IsNotedAt, IsWithin, count_to, entries_at, list_to, passes, settled_by};
+ghost use Rattle.std.specs.Option.{option_copied};
+ghost use Rattle.raft_group_lists.specs.Notes.{AreJoined, AreWithin, HasNoId, IsNotedAt, IsWithin, count_to, entries_at, list_to, membership_in, passes, settled_by};
 
 use crate::judge::Judge;
 use crate::notes::Noted;
-use raft_state::LogId;
+use raft_state::{BasicNode, EntryPayload, LogId, Membership};
 
 // How many entries the list has that ends there.
 pub(crate) fn count_to(noted: &[Noted], at: Option<usize>) -> usize
@@ -75,6 +76,26 @@ pub(crate) fn find_noted(noted: &[Noted], id: &LogId<u64>) -> Option<usize>
         if noted[left].entry.log_id == *id {
             return Some(left);
         }
+    }
+    None
+}
+
+// The last membership of the list that ends there.
+pub(crate) fn membership_to(
+    noted: &[Noted],
+    last: Option<usize>,
+) -> Option<&Membership<u64, BasicNode>>
+    requires joined { AreJoined noted.now }
+    requires within { IsWithin noted.now last }
+    ensures { option_copied result ≡ membership_in (list_to noted.now last) }
+{
+    let mut at = last;
+    while let Some(k) = at {
+        let item = &noted[k];
+        if let EntryPayload::Membership(membership) = &item.entry.payload {
+            return Some(membership);
+        }
+        at = item.before;
     }
     None
 }

@@ -1,10 +1,10 @@
 pub mod Parts
 pub mod Keeping
-mod Fronts
-mod OwnEntries
-mod SetUps
+pub mod Fronts
+pub mod OwnEntries
+pub mod SetUps
 mod GoingOn
-mod Matching
+pub mod Matching
 pub mod StepParts
 pub mod StepWrites
 pub mod OwnNotes

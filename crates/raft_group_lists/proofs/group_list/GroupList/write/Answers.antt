@@ -1,4 +1,4 @@
-use Rattle.std.specs.Prelude.{◌≡◌, ◌++◌, ◌∷◌, ◌+◌, ◌<◌, ℕ, suc, [], List, Some, length}
+use Rattle.std.specs.Prelude.{◌≡◌, ◌++◌, ◌∷◌, ◌+◌, ◌<◌, ℕ, suc, [], List, Some, length, refl}
 use Rattle.std.proofs.Common.{sym, ap, ◌∙◌, arith, subst}
 use Rattle.raft_list_laws.specs.Accounts.{Accounts, AreTrue}
 use Rattle.raft_group_lists.specs.declared.notes.Noted.{Noted}
@@ -63,3 +63,17 @@ returns-clause-others c =
     ap (λ (ns : List Noted). list_to ns (Some at)) (c.push_reserved.ensures.items ∙ ap (λ (ns : List Noted). ns ++ x ∷ []) c.reserve.ensures.items)
     ∙ list_kept noted x c.self.invariant.0.joined (Some at) (within_some noted at inside)
     ∙ ap (λ (n : Notes). list_to n.noted (Some at)) (ap (λ (k : Kept). k.notes) c.self.view_is)
+
+pub returns-clause-noted : goal.returns-clause-noted
+returns-clause-noted c =
+    let i = c.self.inside in
+    let noted = i.noted.items in
+    let x : Noted = record { entry = c.args.entry; before = c.args.before; count = c.count_to-count.result + 1 } in
+    let at : c.len-at.result ≡ length noted = omega (arith, c.len-at.ensures, i.noted.ok.0) in
+    let same : noted ≡ c.args.self.now.notes.noted = ap (λ (k : Kept). k.notes.noted) c.self.view_is in
+    record {
+      one = x;
+      of_entry = refl;
+      place = at ∙ ap length same;
+      behind = c.push_reserved.ensures.items ∙ ap (λ (ns : List Noted). ns ++ x ∷ []) (c.reserve.ensures.items ∙ same);
+    }

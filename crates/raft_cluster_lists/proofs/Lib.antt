@@ -1,0 +1,4 @@
+pub mod SameNotes
+pub mod QuietEvents
+pub mod ListsKept
+pub mod OwnEvents
