@@ -6,7 +6,6 @@ use Rattle.raft_group_step.specs.Values.{Entry, EntryPayload, Membership, entry_
 use Rattle.raft_group_step.specs.Message.{Message}
 use Rattle.raft_laws.specs.BallotLists.{AgreeBelow}
 use Rattle.raft_laws.specs.declared.world_event.WorldEvent.{WorldEvent}
-use Rattle.raft_laws.specs.declared.world_event.WorldEvent.TheVariants.{Restart}
 use Rattle.raft_laws.specs.GroupWorld.{GroupWorld, Led, Outcome, Recorded}
 use Rattle.raft_laws.specs.GroupRun.{At, Replays, led_after, outcome_of, scene_of, sent_in, setup_after}
 use Rattle.raft_laws.specs.NodeEvent.{NodeEvent}
@@ -51,10 +50,6 @@ AcceptsOnce sent = (accepted_by sent ≡ []) ⊎ ((x : Acceptance) × (accepted_
 -- what an event sends, if it does, accepts once at most
 abbrev pub EventsAcceptOnce : Type 0
 EventsAcceptOnce = (w : GroupWorld) (e : WorldEvent) (stops : Bool) → AcceptsOnce (sent_in (outcome_of w e stops))
-
--- a node that is opened accepts nothing
-abbrev pub OpeningsAcceptNothing : Type 0
-OpeningsAcceptNothing = (w : GroupWorld) (n : ℕ) (stops : Bool) → accepted_by (sent_in (outcome_of w (Restart n) stops)) ≡ []
 
 -- ---- the note of a leader
 

@@ -1,4 +1,0 @@
-pub mod SameNotes
-pub mod QuietEvents
-pub mod ListsKept
-pub mod OwnEvents

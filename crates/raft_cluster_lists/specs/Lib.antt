@@ -1,3 +1,0 @@
-pub mod Brought
-pub mod Keeping
-pub mod Lists
