@@ -24,8 +24,10 @@ impl Reports {
     // The entries by their log ids, each with what it asks for.
     fn shown(&self, alloc: Global) -> Result<String, AllocError> {
         let mut text = String::new(alloc);
-        let mut place = 0;
-        while let Some(entry) = self.list.get(place) {
+        for place in 0..self.list.len() {
+            let Some(entry) = self.list.get(place) else {
+                break;
+            };
             let id = &entry.log_id;
             let leader = &id.leader_id;
             let before = if place == 0 { "" } else { " " };
@@ -47,7 +49,6 @@ impl Reports {
                 )?,
             };
             text.push_str(part.as_str())?;
-            place += 1;
         }
         Ok(text)
     }
