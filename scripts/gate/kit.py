@@ -27,6 +27,20 @@ rtlib = rt.rtlib
 _bodies = _load("rt_plant_bodies", f"{FOLDER}/bin/rt-plant-bodies")
 
 
+_stamp, _stamps = rtlib.Crate.stamp, {}
+
+
+def _remembered_stamp(crate):
+    """The sum of a crate's sources and of all below, which the kit makes anew along each path from
+    the crate down. Sources stay while edits are tried, so each crate's is made once."""
+    if crate.folder not in _stamps:
+        _stamps[crate.folder] = _stamp(crate)
+    return _stamps[crate.folder]
+
+
+rtlib.Crate.stamp = _remembered_stamp
+
+
 def crates(top):
     """Returns the repository's crates by their names, lowest first."""
     found = sorted(rtlib.crates_below(top), key=lambda it: len(it.below()))

@@ -46,7 +46,7 @@ use Rattle.raft_cluster.specs.Happening.{ComesTo, Delivers, Settles}
 use Rattle.raft_cluster.specs.Joined.{HasHeadline, downs_of, ids_of}
 use Rattle.raft_cluster.specs.Sending.{sent_after}
 use Rattle.raft_cluster.proofs.BeginLemmas.{agree_first, told_first}
-use Rattle.raft_cluster.proofs.JoinLemmas.{IsToldSoFar, error_as, group_event, itself, led, led_silently, stands, stopped_as, turned, with_nothing}
+use Rattle.raft_cluster.proofs.JoinLemmas.{IsOneMore, IsToldSoFar, error_as, group_event, itself, led, led_silently, stands, stopped_as, turned, with_nothing}
 use Rattle.raft_cluster.proofs.ListLemmas.{all_of, beside, its_id}
 use Rattle.raft_cluster.proofs.PlainLemmas.{IsFreeSetUp, free_in_plain, same_membership}
 use Rattle.raft_cluster.proofs.SpellingLemmas.{all_say, parts_say, same_length}
@@ -132,7 +132,7 @@ module _ {N : Type 0} (rules : MachineRules) (acts : NodeActs N) (states : NodeS
     same_set_up group (Some m) free = free_in_plain history t.told.plain t.set_ups group m free
 
     abbrev After : List N → Sent → ClusterEvent → EventOutcome → Type 0
-    After nodes' later e o = IsToldSoFar rules acts states ids downs nodes' later (history ++ record { event = e; outcome = o } ∷ [])
+    After nodes' later e o = IsOneMore rules acts states ids downs nodes sent history t (record { event = e; outcome = o }) nodes' later
 
     module _ (before : N) (o : EventOutcome) (new : N) (later : Sent) where
       abbrev Now : ClusterEvent → N → Type 0
@@ -328,7 +328,7 @@ module _ {N : Type 0} (rules : MachineRules) (acts : NodeActs N) (states : NodeS
       turned_away e why away =
           turned rules acts states ids downs nodes sent history t e why o nodes' later away.outcome away.nodes away.sends (unwrap_or (node_behind t.told.plain e) 0) (named_by (node_behind t.told.plain e)) (away_is_free history e o why away.outcome)
 
-      one_more : (e : ClusterEvent) → Happens acts nodes sent history e o nodes' later → After nodes' later e o
+      pub one_more : (e : ClusterEvent) → Happens acts nodes sent history e o nodes' later → After nodes' later e o
       one_more e happens = go (refusal_in acts nodes sent history e) refl happens
         where
           go : (w : Option ClusterRefusal) → refusal_in acts nodes sent history e ≡ w → HappensBy acts w nodes sent e o nodes' later → After nodes' later e o
@@ -347,7 +347,7 @@ module _ {N : Type 0} (rules : MachineRules) (acts : NodeActs N) (states : NodeS
       subst P (sym same) (subst Q (sym kept) (subst R (sym (append-nil history)) t))
   runs_on nodes sent history t (r ∷ rs) nodes' later (mid, gone, happens, rest) =
       subst (λ h. IsToldSoFar rules acts states ids downs nodes' later h) (append_assoc history (r ∷ []) rs)
-      (runs_on mid gone (history ++ r ∷ []) (one_more nodes sent history t r.outcome mid gone r.event happens) rs nodes' later rest)
+      (runs_on mid gone (history ++ r ∷ []) (one_more nodes sent history t r.outcome mid gone r.event happens).next rs nodes' later rest)
 
 -- where the nodes keep the law, what is reached has the headline
 pub headline : {N : Type 0} (rules : MachineRules) (acts : NodeActs N) (states : NodeStates N) (nodes : List N) (sent : Sent) (history : List Recorded) → IsReached acts nodes sent history → KeepsLaw rules acts states → HasHeadline rules acts states nodes sent history

@@ -75,32 +75,52 @@ pub record IsToldSoFar {N : Type 0} (rules : MachineRules) (acts : NodeActs N) (
   pub told : IsToldOf rules acts states ids downs nodes sent history
   pub set_ups : SetUpsAgree history told.plain
 
+-- a record more of a node, with the states in which it may be behind it
+pub record IsOneMore {N : Type 0} (rules : MachineRules) (acts : NodeActs N) (states : NodeStates N) (ids downs : List ℕ) (nodes : List N) (sent : Sent) (history : List Recorded) (t : IsToldSoFar rules acts states ids downs nodes sent history) (real : Recorded) (nodes' : List N) (later : Sent) : Type 0 where
+  pub next : IsToldSoFar rules acts states ids downs nodes' later (history ++ real ∷ [])
+  pub one : PlainRecord
+  pub plain : next.told.plain ≡ t.told.plain ++ one ∷ []
+  pub recorded : IsRecordedAs t.told.plain real one
+  pub news : ℕ → List NodeState
+  pub leads : (h : ℕ) → EventLeads rules h one.node one t.told.plain (t.told.stand.candidates h one.node) (news h)
+  pub candidates : (h : ℕ) → next.told.stand.candidates h ≡ with_value (t.told.stand.candidates h) one.node (news h)
+  pub free : IsFreeSetUp history real
+
 module _ {N : Type 0} (rules : MachineRules) (acts : NodeActs N) (states : NodeStates N) (ids downs : List ℕ) where
   module _ (nodes : List N) (sent : Sent) (history : List Recorded) (t : IsToldSoFar rules acts states ids downs nodes sent history) where
     abbrev olds : ℕ → ℕ → List NodeState
     olds n h = t.told.stand.candidates h n
 
     -- a record more, with a node's new candidates
-    joined : (real : Recorded) (r : PlainRecord) (n : ℕ) (news : ℕ → List NodeState) (nodes' : List N) (later : Sent)
-        → ((h : ℕ) → EventLeads rules h n r t.told.plain (olds n h) (news h))
+    joined : (real : Recorded) (r : PlainRecord) (news : ℕ → List NodeState) (nodes' : List N) (later : Sent)
+        → ((h : ℕ) → EventLeads rules h r.node r t.told.plain (olds r.node h) (news h))
         → IsRecordedAs t.told.plain real r
-        → ((m : ℕ) (node : N) → node_in acts nodes' m ≡ Some node → (h : ℕ) → states.may_be node h (with_value (t.told.stand.candidates h) n (news h) m))
+        → ((m : ℕ) (node : N) → node_in acts nodes' m ≡ Some node → (h : ℕ) → states.may_be node h (with_value (t.told.stand.candidates h) r.node (news h) m))
         → ((h : ℕ) → AllZip (IsSentAs states.spells h) (later h) (sent_by h t.told.plain ++ (said_by h r.event r.outcome).sent))
         → ids_of acts nodes' ≡ ids_of acts nodes → IsFreeSetUp history real
-        → IsToldSoFar rules acts states ids downs nodes' later (history ++ real ∷ [])
-    joined real r n news nodes' later leads recorded may frames same free = record {
-      told = record {
-        plain = t.told.plain ++ r ∷ [];
-        report = report_more downs history t.told.plain real r t.told.report recorded;
-        stand = record {
-          candidates = λ h. with_value (t.told.stand.candidates h) n (news h);
-          kept = kept_by_all rules ids t.told.stand.candidates t.told.plain t.told.stand.kept r n news leads;
-          may_be = may;
-          frames = λ h. subst (λ ms. AllZip (IsSentAs states.spells h) (later h) ms) (sym (sent_more h t.told.plain r)) (frames h);
+        → IsOneMore rules acts states ids downs nodes sent history t real nodes' later
+    joined real r news nodes' later leads recorded may frames same free = record {
+      next = record {
+        told = record {
+          plain = t.told.plain ++ r ∷ [];
+          report = report_more downs history t.told.plain real r t.told.report recorded;
+          stand = record {
+            candidates = λ h. with_value (t.told.stand.candidates h) r.node (news h);
+            kept = kept_by_all rules ids t.told.stand.candidates t.told.plain t.told.stand.kept r r.node news leads;
+            may_be = may;
+            frames = λ h. subst (λ ms. AllZip (IsSentAs states.spells h) (later h) ms) (sym (sent_more h t.told.plain r)) (frames h);
+          };
+          same_ids = same ∙ t.told.same_ids;
         };
-        same_ids = same ∙ t.told.same_ids;
+        set_ups = agree_on history t.told.plain real r t.set_ups recorded free;
       };
-      set_ups = agree_on history t.told.plain real r t.set_ups recorded free;
+      one = r;
+      plain = refl;
+      recorded = recorded;
+      news = news;
+      leads = leads;
+      candidates = λ h. refl;
+      free = free;
     }
 
     pub with_nothing : (h : ℕ) (later : Sent) (ms : List Message) → ms ≡ [] → later h ≡ sent h → AllZip (IsSentAs states.spells h) (later h) (sent_by h t.told.plain ++ ms)
@@ -112,10 +132,10 @@ module _ {N : Type 0} (rules : MachineRules) (acts : NodeActs N) (states : NodeS
     -- it was turned away: nothing changes but the histories
     pub turned : (e : ClusterEvent) (why : ClusterRefusal) (o : EventOutcome) (nodes' : List N) (later : Sent) → o ≡ outcome.TurnedAway why → nodes' ≡ nodes → later ≡ sent
         → (n : ℕ) → IfSome (node_behind t.told.plain e) (λ m. n ≡ m) → IsFreeSetUp history (record { event = e; outcome = o })
-        → IsToldSoFar rules acts states ids downs nodes' later (history ++ record { event = e; outcome = o } ∷ [])
+        → IsOneMore rules acts states ids downs nodes sent history t (record { event = e; outcome = o }) nodes' later
     turned e why o nodes' later is same kept n at free =
         let r : PlainRecord = record { event = plain_event e; node = n; outcome = TurnedAway } in
-        joined (record { event = e; outcome = o }) r n (olds n) nodes' later
+        joined (record { event = e; outcome = o }) r (olds n) nodes' later
         (λ h. let kept_h = t.told.stand.kept.groups h in record { one = kept_h.one n; some = kept_h.among n; came = λ s has. (s, has, refl) })
         (record {
           event = inl refl;
@@ -140,7 +160,7 @@ module _ {N : Type 0} (rules : MachineRules) (acts : NodeActs N) (states : NodeS
 
       module _ (e : ClusterEvent) (happened : PlainEvent) (is_plain : happened ≡ plain_event e) (at : IfSome (node_behind t.told.plain e) (λ n. acts.id before ≡ n)) (o : EventOutcome) (free : IsFreeSetUp history (record { event = e; outcome = o })) (new : N) (later : Sent) (same_id : acts.id new ≡ acts.id before) where
         abbrev Goal : Type 0
-        Goal = IsToldSoFar rules acts states ids downs (with_node acts (acts.id before) new nodes) later (history ++ record { event = e; outcome = o } ∷ [])
+        Goal = IsOneMore rules acts states ids downs nodes sent history t (record { event = e; outcome = o }) (with_node acts (acts.id before) new nodes) later
 
         -- what it leads to is there
         pub led : (Says : PlainOutcome → Type 0) (l : Leads rules acts states t.told.plain happened (olds (acts.id before)) before new Says) → OutcomeAs t.told.plain e o l.outcome
@@ -148,7 +168,7 @@ module _ {N : Type 0} (rules : MachineRules) (acts : NodeActs N) (states : NodeS
         led Says l told frames =
             let n = acts.id before in
             let r : PlainRecord = record { event = l.told; node = n; outcome = l.outcome } in
-            joined (record { event = e; outcome = o }) r n l.news (with_node acts n new nodes) later l.leads
+            joined (record { event = e; outcome = o }) r l.news (with_node acts n new nodes) later l.leads
             (record { event = subst (λ x. IsToldAs x n l.outcome l.told) is_plain l.as_itself; node = at; outcome = told })
             (λ m node there h. may n m node there h (eqb m n) refl)
             frames
@@ -176,7 +196,7 @@ module _ {N : Type 0} (rules : MachineRules) (acts : NodeActs N) (states : NodeS
             (says_if : (h : ℕ) (p : PlainOutcome) → said_by h happened p ≡ said_if (eqb group h) p)
             (Kind : List PlainRecord → Type 0) (kind : Kind t.told.plain) where
           abbrev GoalAt : N → Type 0
-          GoalAt x = IsToldSoFar rules acts states ids downs (with_node acts (acts.id before) x nodes) later (history ++ record { event = e; outcome = o } ∷ [])
+          GoalAt x = IsOneMore rules acts states ids downs nodes sent history t (record { event = e; outcome = o }) (with_node acts (acts.id before) x nodes) later
 
           pub group_event : (answered : Answered) → IsTaken rules acts states Kind happened group before answered mid → Settles acts sent e mid answered o later new → GoalAt new
           group_event (Err why) taken over_it =

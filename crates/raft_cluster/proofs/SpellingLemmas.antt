@@ -33,6 +33,7 @@ module _ (spells : ℕ → Message → List ℕ → Type 0) (own sender : ℕ) (
       sender = mine ∙ sym all.0.sender;
       addressee = sym all.0.addressee;
       spelled = subst (λ k. spells k m f.bytes) is all.0.spelled;
+      accepts = all.0.accepts;
     },
     frames_say g h is fs ms all.1,
   )

@@ -32,7 +32,7 @@ pub is_only : {A : Type 0} (x y : A) → Contains (x ∷ []) y → y ≡ x
 is_only x y has = ⊎_elim (λ same. same) (λ none. absurd none) (contains_among (x ∷ []) y has)
 
 -- a choice with another state at one node
-other_choice : (candidates : Candidates) (states : ℕ → NodeState) (n : ℕ) (news : List NodeState) (t : NodeState) → AreAmong candidates states → Contains news t → AreAmong (with_value candidates n news) (with_value states n t)
+pub other_choice : (candidates : Candidates) (states : ℕ → NodeState) (n : ℕ) (news : List NodeState) (t : NodeState) → AreAmong candidates states → Contains news t → AreAmong (with_value candidates n news) (with_value states n t)
 other_choice candidates states n news t among has m = go (m == n)
   where
     go : (b : Bool) → Contains (if b then news else candidates m) (if b then t else states m)
@@ -48,25 +48,25 @@ same_choice candidates states n s among has m = go (m == n) refl
     go false e = among m
 
 -- the choice before an event
-choice_before : (candidates : Candidates) (states : ℕ → NodeState) (n : ℕ) (news : List NodeState) (s : NodeState) → AreAmong (with_value candidates n news) states → Contains (candidates n) s → AreAmong candidates (with_value states n s)
+pub choice_before : (candidates : Candidates) (states : ℕ → NodeState) (n : ℕ) (news : List NodeState) (s : NodeState) → AreAmong (with_value candidates n news) states → Contains (candidates n) s → AreAmong candidates (with_value states n s)
 choice_before candidates states n news s among has m = go (m == n) refl (among m)
   where
     go : (b : Bool) → (m == n) ≡ b → Contains (if b then news else candidates m) (states m) → Contains (candidates m) (if b then s else states m)
     go true e there = subst (λ i. Contains (candidates i) s) (sym (eqb-true m n e)) has
     go false e there = there
 
-chosen : (candidates : Candidates) (states : ℕ → NodeState) (n : ℕ) (news : List NodeState) → AreAmong (with_value candidates n news) states → Contains news (states n)
+pub chosen : (candidates : Candidates) (states : ℕ → NodeState) (n : ℕ) (news : List NodeState) → AreAmong (with_value candidates n news) states → Contains news (states n)
 chosen candidates states n news among =
     subst (λ b. Contains (if b then news else candidates n) (states n)) (eq-eqb n n refl) (among n)
 
-back : (states nodes : ℕ → NodeState) (n : ℕ) (s : NodeState) → ((m : ℕ) → nodes m ≡ with_value states n s m) → (m : ℕ) → with_node_state n (states n) nodes m ≡ states m
+pub back : (states nodes : ℕ → NodeState) (n : ℕ) (s : NodeState) → ((m : ℕ) → nodes m ≡ with_value states n s m) → (m : ℕ) → with_node_state n (states n) nodes m ≡ states m
 back states nodes n s same m = go (m == n) refl (same m)
   where
     go : (b : Bool) → (m == n) ≡ b → nodes m ≡ (if b then s else states m) → state_or b (states n) (nodes m) ≡ states m
     go true e is = ap states (sym (eqb-true m n e))
     go false e is = is
 
-at_own : (states : ℕ → NodeState) (n : ℕ) (s : NodeState) → with_value states n s n ≡ s
+pub at_own : (states : ℕ → NodeState) (n : ℕ) (s : NodeState) → with_value states n s n ≡ s
 at_own states n s = ap (λ b. if b then s else states n) (eq-eqb n n refl)
 
 -- ---- where a history leads
@@ -94,7 +94,7 @@ module _ (rules : MachineRules) (ids : List ℕ) (fit : AreNodeIds ids) (h : ℕ
       acts_in e (At m at) here acts =
           acts_lead rules ids h there.more end there.kept bytes_sent r n s t is e at (here ∙ ap (λ i. At i at) acts.0) acts.1 acts.2
 
-      goes : (seen : Seen) → MayBecome rules h n r history seen s t → Goes rules h seen r end n t
+      pub goes : (seen : Seen) → MayBecome rules h n r history seen s t → Goes rules h seen r end n t
       goes Passed may = record { number = 0; new = end; step = refl; nodes = λ j. own_state n j end.world.nodes t (is ∙ sym may) }
       goes (Own e) may = acts_in e (scene_behind h history e) (scenes e) may
       goes (Halted m) may =

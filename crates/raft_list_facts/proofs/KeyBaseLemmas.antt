@@ -41,28 +41,36 @@ run_up_to leader own b start end rest l =
     ∙ run_of leader own b start (end - start - 1) rest (leader_eq own leader) refl
     ∙ ap (λ k. if leader_eq own leader then b else before_own leader (UpTo (record { leader_id = own; index = k })) rest) at
 
--- what stands before the next key, if there is one, behind another leader's one
-abbrev pub behind_key : Base → LogId ℕ → Option (LogId ℕ) → Base
-behind_key b key None = b
-behind_key b key (Some next) = UpTo (record { leader_id = key.leader_id; index = next.index - 1 })
+-- the last place of another leader's key: before the next key, or its own
+abbrev pub last_of_key : LogId ℕ → Option (LogId ℕ) → ℕ
+last_of_key key None = key.index
+last_of_key key (Some next) = next.index - 1
 
-up_to_next : (leader : LeaderId ℕ) (b : Base) (key : LogId ℕ) (rest : List (LogId ℕ))
+-- what stands before the next key, behind another leader's one
+abbrev pub behind_key : LogId ℕ → Option (LogId ℕ) → Base
+behind_key key next = UpTo (record { leader_id = key.leader_id; index = last_of_key key next })
+
+last_place : (key : LogId ℕ) (rest : List (LogId ℕ)) → end_of_key key rest - 1 ≡ last_of_key key (slice_get rest 0)
+last_place key [] = omega arith
+last_place key (next ∷ rest) = refl
+
+up_to_next : (leader : LeaderId ℕ) (key : LogId ℕ) (rest : List (LogId ℕ))
     → before_own leader (UpTo (record { leader_id = key.leader_id; index = end_of_key key rest - 1 })) (ids_of rest)
-    ≡ before_own leader (behind_key b key (slice_get rest 0)) (ids_of rest)
-up_to_next leader b key [] = refl
-up_to_next leader b key (next ∷ rest) = refl
+    ≡ before_own leader (behind_key key (slice_get rest 0)) (ids_of rest)
+up_to_next leader key rest =
+    ap (λ k. before_own leader (UpTo (record { leader_id = key.leader_id; index = k })) (ids_of rest)) (last_place key rest)
 
 first_key : (leader : LeaderId ℕ) (b : Base) (key : LogId ℕ) (rest : List (LogId ℕ)) → IsBelowNext key rest
     → before_own leader b (ids_of (key ∷ rest))
-    ≡ (if leader_eq key.leader_id leader then b else before_own leader (behind_key b key (slice_get rest 0)) (ids_of rest))
+    ≡ (if leader_eq key.leader_id leader then b else before_own leader (behind_key key (slice_get rest 0)) (ids_of rest))
 first_key leader b key rest l =
     run_up_to leader key.leader_id b key.index (end_of_key key rest) (ids_of rest) (end_above key rest l)
-    ∙ ap (λ x. if leader_eq key.leader_id leader then b else x) (up_to_next leader b key rest)
+    ∙ ap (λ x. if leader_eq key.leader_id leader then b else x) (up_to_next leader key rest)
 
 -- one key more
 pub next_key : (leader : LeaderId ℕ) (b : Base) (keys : List (LogId ℕ)) (at : ℕ) (d : LogId ℕ) → PlacesRise keys → at < length keys
     → before_own leader b (ids_of (drop at keys))
-    ≡ (if leader_eq (get_or keys at d).leader_id leader then b else before_own leader (behind_key b (get_or keys at d) (slice_get keys (at + 1))) (ids_of (drop (at + 1) keys)))
+    ≡ (if leader_eq (get_or keys at d).leader_id leader then b else before_own leader (behind_key (get_or keys at d) (slice_get keys (at + 1))) (ids_of (drop (at + 1) keys)))
 next_key leader b [] at d r l = absurd (omega arith)
 next_key leader b (x ∷ keys) zero d r l = first_key leader b x keys r.0
 next_key leader b (x ∷ keys) (suc at) d r l =
@@ -93,9 +101,15 @@ key_there [] i d l = absurd (omega arith)
 key_there (x ∷ keys) zero d l = refl
 key_there (x ∷ keys) (suc i) d l = key_there keys i d (omega arith)
 
-pub behind_within : (b : Base) (key : LogId ℕ) (keys : List (LogId ℕ)) (i : ℕ) (d : LogId ℕ) → i < length keys
-    → behind_key b key (slice_get keys i) ≡ UpTo (record { leader_id = key.leader_id; index = (get_or keys i d).index - 1 })
-behind_within b key keys i d l = ap (behind_key b key) (key_there keys i d l)
+pub last_within : (key : LogId ℕ) (keys : List (LogId ℕ)) (i : ℕ) (d : LogId ℕ) → i < length keys → last_of_key key (slice_get keys i) ≡ (get_or keys i d).index - 1
+last_within key keys i d l = ap (last_of_key key) (key_there keys i d l)
 
-pub behind_last : (b : Base) (key : LogId ℕ) (keys : List (LogId ℕ)) (i : ℕ) → length keys ≤ i → behind_key b key (slice_get keys i) ≡ b
-behind_last b key keys i past = ap (behind_key b key) (slice_get_past keys i past)
+pub last_past : (key : LogId ℕ) (keys : List (LogId ℕ)) (i : ℕ) → length keys ≤ i → last_of_key key (slice_get keys i) ≡ key.index
+last_past key keys i past = ap (last_of_key key) (slice_get_past keys i past)
+
+-- the key's leader at a place
+abbrev pub at_place : LogId ℕ → ℕ → LogId ℕ
+at_place key place = record { leader_id = key.leader_id; index = place }
+
+pub key_up_to : (key : LogId ℕ) {place last : ℕ} → place ≡ last → at_place key place ≡ at_place key last
+key_up_to key same = ap (at_place key) same

@@ -38,8 +38,8 @@ fn accepted_by_reply(reply: &ReplyFields) -> Option<Acceptance>
     })
 }
 
-/// What a message with this body accepts: a reply does so under its vote alone, with success up to its last log id, with a
-/// part up to that one. Every other message accepts nothing.
+/// What a message with this body accepts: a reply does so under its vote alone, with success up to its
+/// last log id, with a part up to that one. Every other message accepts nothing.
 pub fn accepted_in<S>(body: &MessageBody<S>) -> Option<Acceptance>
     ensures { result ≡ accepted_by body.now }
 {

@@ -15,7 +15,7 @@ pub enum Base {
     Nothing,
     /// All up to this log id.
     UpTo(LogId<u64>),
-    /// It can't be told: it is purged, or no entry is the leader's own.
+    /// It can't be told: the leader's first own entry is purged.
     Unknown,
 }
 
@@ -30,8 +30,8 @@ pub struct Leading {
     pub base: Base,
 }
 
-// What stands before the leader's first log id among those that the keys tell, where this stands before
-// all of them.
+// What stands before the leader's first log id among those that the keys tell, where this stands
+// before all of them; all that they tell, if none is its own.
 fn base_among(keys: &[LogId<u64>], leader: &LeaderId<u64>, first: Base) -> Base
     requires { PlacesRise keys.now }
     ensures { result ≡ before_own leader.now first (ids_of keys.now) }
@@ -41,12 +41,14 @@ fn base_among(keys: &[LogId<u64>], leader: &LeaderId<u64>, first: Base) -> Base
         if key.leader_id == *leader {
             return before;
         }
-        if at + 1 < keys.len() {
-            let next = keys[at + 1].index;
-            before = Base::UpTo(LogId::new(key.leader_id, next - 1));
-        }
+        let last = if at + 1 < keys.len() {
+            keys[at + 1].index - 1
+        } else {
+            key.index
+        };
+        before = Base::UpTo(LogId::new(key.leader_id, last));
     }
-    Base::Unknown
+    before
 }
 
 // What stands before all log ids that are known.

@@ -1,4 +1,5 @@
-//! What is told of an event so that a group's one list can be kept: what messages accept, and what a leader has.
+//! What is told of an event so that a group's one list can be kept: what messages accept, and what a
+//! leader has.
 #![tactic(auto)]
 
 mod acceptance;

@@ -22,11 +22,15 @@ pub fn what_messages_accept()
     ensures vote { accepted_in (VoteReply (vote_of 4 2 true) true (Some (log_id_of 4 2 3))) ≡ None }
 {}
 
-/// A leader took over all before its first own entry. Where that is purged it can't be told; the last
-/// log id that is purged before it can. A node that follows leads nothing.
+/// A leader took over all before its first own entry, or all that it has while it has none. Where its
+/// first own entry is purged it can't be told; the last log id that is purged before it can. A node that
+/// follows leads nothing.
 pub fn what_leaders_took_over()
     ensures nothing { base_of_two None (log_id_of 4 2 0 ∷ log_id_of 4 2 1 ∷ []) ≡ Some Nothing }
     ensures before { base_of_two None (log_id_of 1 1 0 ∷ log_id_of 3 1 1 ∷ log_id_of 4 2 2 ∷ []) ≡ Some (UpTo (log_id_of 3 1 1)) }
+    ensures none_yet { base_of_two None (log_id_of 1 1 0 ∷ log_id_of 3 1 1 ∷ []) ≡ Some (UpTo (log_id_of 3 1 1)) }
+    ensures none_at_all { base_of_two None [] ≡ Some Nothing }
+    ensures all_others_purged { base_of_two (Some (log_id_of 3 1 1)) [] ≡ Some (UpTo (log_id_of 3 1 1)) }
     ensures purged { base_of_two (Some (log_id_of 4 2 2)) (log_id_of 4 2 3 ∷ []) ≡ Some Unknown }
     ensures behind_purged { base_of_two (Some (log_id_of 3 1 1)) (log_id_of 4 2 2 ∷ []) ≡ Some (UpTo (log_id_of 3 1 1)) }
     ensures all_purged { told_by_two (Some (log_id_of 4 2 2)) []

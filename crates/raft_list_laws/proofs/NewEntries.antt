@@ -43,7 +43,7 @@ use Rattle.raft_list_laws.proofs.Parts.{agree_whole}
 -- ---- lists
 
 -- a list that goes on from a front, by entries that all stand right behind it, has one more at most
-one_past : (xs front : List Entry) (Q : Entry → Type 0) → AgreeBelow (length front) front xs → ((i : ℕ) (e : Entry) → length front ≤ i → slice_get xs i ≡ Some e → (i ≡ length front) × Q e) → (xs ≡ front) ⊎ ((x : Entry) × (xs ≡ front ++ x ∷ []) × Q x × (slice_get xs (length front) ≡ Some x))
+pub one_past : (xs front : List Entry) (Q : Entry → Type 0) → AgreeBelow (length front) front xs → ((i : ℕ) (e : Entry) → length front ≤ i → slice_get xs i ≡ Some e → (i ≡ length front) × Q e) → (xs ≡ front) ⊎ ((x : Entry) × (xs ≡ front ++ x ∷ []) × Q x × (slice_get xs (length front) ≡ Some x))
 one_past xs front Q agree past =
     ⊎_elim
     (λ more.
@@ -77,7 +77,7 @@ next_is_own leader (x ∷ xs) e is = go (is_written_by leader x) refl is (next_i
     go true own here rest = subst (λ (y : Entry). is_written_by leader y ≡ true) (same_some here) own
     go false other past rest = rest past
 
-as_behind : (vote : Vote ℕ) (list : List Entry) (x : Entry) → x.log_id.leader_id ≡ vote.leader_id → x.log_id.index ≡ length list → x ≡ behind vote list x.payload
+pub as_behind : (vote : Vote ℕ) (list : List Entry) (x : Entry) → x.log_id.leader_id ≡ vote.leader_id → x.log_id.index ≡ length list → x ≡ behind vote list x.payload
 as_behind vote list x leader index =
     ap₂ (λ (i : LeaderId ℕ) (j : ℕ). entry_of (record { leader_id = i; index = j }) x.payload) leader index
 
@@ -131,7 +131,7 @@ module _ (end : GroupWorld) (f : Founded end) (l : Led) (among : Among l end.led
         ))
         (own_cases i e at own)
 
-    first_note : GoesOnByOne l.vote (base_of l) (λ e. e.payload ≡ Blank) l.list
+    pub first_note : GoesOnByOne l.vote (base_of l) (λ e. e.payload ≡ Blank) l.list
     first_note =
         ⊎_elim
         (λ same. inl same)

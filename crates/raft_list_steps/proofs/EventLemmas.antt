@@ -25,8 +25,8 @@ use Rattle.raft_group_lists.specs.Notes.{Notes, accounts_of, list_to}
 use Rattle.raft_list_steps.specs.declared.report.GroupReport.{GroupReport}
 use Rattle.raft_list_facts.specs.declared.leading.Leading.{Leading}
 use Rattle.raft_list_steps.specs.declared.report.SetUp.{SetUp}
-use Rattle.raft_list_steps.specs.Lists.{HasListOf, IsKnown, IsListOf, IsSetUpAhead}
-use Rattle.raft_list_steps.specs.Reports.{Hears, HearsAhead, IsBehind, IsHeard, IsLeadOf, IsReportAhead, IsReportOf, SaysLead, SaysSetUp, accepted_by, first_setup, listed}
+use Rattle.raft_list_steps.specs.Lists.{HasListBy, IsKnown, IsListOf, IsSetUpAhead}
+use Rattle.raft_list_steps.specs.Reports.{Hears, HearsAhead, HearsSetUp, IsBehind, IsHeard, IsLeadOf, IsReportAhead, IsReportOf, SaysLead, SaysSetUp, accepted_by, first_setup, listed}
 use Rattle.raft_list_steps.specs.Steps.{Accepts, AreNext, IsNext, IsUnled, ListsAgree, MayLead, SetsUp, with_first, with_messages, with_notes}
 use Rattle.raft_list_steps.proofs.ListFacts.{last_noted}
 use Rattle.raft_list_steps.proofs.MessageLemmas.{fronts_before_all, with_messages_led, with_messages_sent, with_messages_setup}
@@ -381,12 +381,24 @@ module _ (s s₁ s₂ s₃ : Notes) (report : GroupReport) (up : SetsUp s report
         leads_not None none = refl
         leads_not (Some x) l = absurd (let no : [] ≡ l.0 ∷ [] = l.1 in cc)
 
-    has_behind : HasListOf s₃ w'
+    has_behind : HasListBy m s₃ w'
+    unfolding not_taken
     has_behind = go w'.setup refl
       where
-        go : (o : Option Membership) → w'.setup ≡ o → HasListOf s₃ w'
-        go None none = inr (not_taken none)
+        go : (o : Option Membership) → w'.setup ≡ o → HasListBy m s₃ w'
+        go None none = inr (not_taken none, refl)
         go (Some x) up_now = inl (taken x up_now)
 
   pub hears_ahead : HearsAhead s report s₃
   hears_ahead = λ ids w r w' behind ahead is. has_behind ids w r w' behind ahead is
+
+  -- ---- a set-up alone
+
+  pub hears_set_up : HearsSetUp s report s₃
+  hears_set_up w m said leads_not accepts_not none unled h =
+      let u : GroupWorld = with_setup w m in
+      let set_up : IsListOf s₁ u = up w (Some m) said (λ x taken. (none, unled)) h in
+      let quiet : AreNext report.leading report.written report.node u [] = subst (λ (o : Option Leading). AreNext o report.written report.node u []) (sym leads_not) refl in
+      let fronts : PartsAreFronts [] u = λ l c. absurd (contains_among [] l (subst (λ (ls : List Led). Contains ls l) unled c)) in
+      let silent : accepted_by [] ≡ listed report.accepted = ap listed (sym accepts_not) in
+      accept u [] [] fronts (λ x c. absurd (contains_among [] x c)) silent (lead u [] [] quiet fronts set_up)

@@ -39,7 +39,7 @@ use Rattle.raft_laws.specs.NodeEvent.{NodeEvent, Comes, Crashes, Halts, Restarts
 use Rattle.raft_laws.specs.GroupRun.{Scene, Nowhere, At, outcome_in, scene_of, sent_in}
 use Rattle.raft_list_facts.specs.Accepting.{accepted_in}
 use Rattle.raft_list_facts.specs.declared.acceptance.Acceptance.{Acceptance}
-use Rattle.raft_list_steps.specs.Reports.{AcceptsOnce, EventsAcceptOnce, accepted_by, listed}
+use Rattle.raft_list_steps.specs.Reports.{AcceptsOnce, EventsAcceptOnce, OpeningsAcceptNothing, accepted_by, listed}
 
 -- ---- requests accept nothing
 
@@ -208,10 +208,13 @@ opening_asks own st =
 
 -- ---- the whole step
 
-ended_asks : (own : ℕ) (before : Option ℕ) (r : StepResult) → Asks r → AcceptsOnce (finished own before r).messages
-ended_asks own before r h =
+ended_none : (own : ℕ) (before : Option ℕ) (r : StepResult) → Asks r → accepted_by (finished own before r).messages ≡ []
+ended_none own before r h =
     let on = finished_adds own before r in
-    inl (ap accepted_by on.added ∙ requests_accept_none (r.messages ++ on.more) (All-append AsksReply r.messages on.more h.all on.requests))
+    ap accepted_by on.added ∙ requests_accept_none (r.messages ++ on.more) (All-append AsksReply r.messages on.more h.all on.requests)
+
+ended_asks : (own : ℕ) (before : Option ℕ) (r : StepResult) → Asks r → AcceptsOnce (finished own before r).messages
+ended_asks own before r h = inl (ended_none own before r h)
 
 taken_once : (own : ℕ) (s : GroupState) (e : GroupEvent) → refusal_of own s e ≡ None → AcceptsOnce (group_step own s e).messages
 taken_once own s e taken = subst (λ (o : Option RefusalReason). AcceptsOnce (step_unless o own s e).messages) (sym taken) (by_event e taken)
@@ -268,3 +271,31 @@ events_accept_once w e b = in_scene (scene_of w e)
     in_scene : (scene : Scene) → AcceptsOnce (sent_in (outcome_in w b scene))
     in_scene Nowhere = inl refl
     in_scene (At n at) = at_once n at b (w.nodes n)
+
+-- ---- an opening
+
+opened_none : (own : ℕ) (stored : StoredGroup) (b : Bool) → accepted_by (sent_in (outcome_of_step b (state_of stored) Open (group_step own (state_of stored) Open))) ≡ []
+opened_none own stored true = stopped (group_step own (state_of stored) Open).refused
+  where
+    stopped : (p : Option RefusalReason) → accepted_by (sent_in (outcome_of_stop (state_of stored) Open (group_step own (state_of stored) Open) p)) ≡ []
+    stopped None = refl
+    stopped (Some why) = refl
+opened_none own stored false = ran (group_step own (state_of stored) Open).refused
+  where
+    by : (o : Option RefusalReason) → refusal_of own (state_of stored) Open ≡ o → accepted_by (group_step own (state_of stored) Open).messages ≡ []
+    by None passed =
+        subst (λ (o : Option RefusalReason). accepted_by (step_unless o own (state_of stored) Open).messages ≡ []) (sym passed)
+        (ended_none own (state_of stored).committed _ (opening_asks own stored))
+    by (Some why) refused = subst (λ (o : Option RefusalReason). accepted_by (step_unless o own (state_of stored) Open).messages ≡ []) (sym refused) refl
+
+    ran : (p : Option RefusalReason) → accepted_by (sent_in (outcome_of_end (group_step own (state_of stored) Open) p)) ≡ []
+    ran None = by (refusal_of own (state_of stored) Open) refl
+    ran (Some why) = refl
+
+opened_at : (n : ℕ) (b : Bool) (state : NodeState) → accepted_by (sent_in (outcome_at n Restarts b state)) ≡ []
+opened_at n b Absent = refl
+opened_at n b (Up s) = refl
+opened_at n b (Down stored) = opened_none n stored b
+
+pub openings_accept_nothing : OpeningsAcceptNothing
+openings_accept_nothing w n b = opened_at n b (w.nodes n)

@@ -49,3 +49,7 @@ pub record IsSetUpAhead (s : Notes) (w : GroupWorld) : Type 0 where
 
 abbrev pub HasListOf : Notes → GroupWorld → Type 0
 HasListOf s w = IsListOf s w ⊎ IsSetUpAhead s w
+
+-- so it is, where a set-up that was heard ahead has this membership
+abbrev pub HasListBy : Membership → Notes → GroupWorld → Type 0
+HasListBy m s w = IsListOf s w ⊎ ((ahead : IsSetUpAhead s w) × (ahead.membership ≡ m))

@@ -6,6 +6,7 @@ use Rattle.raft_group_step.specs.Values.{Entry, EntryPayload, Membership, entry_
 use Rattle.raft_group_step.specs.Message.{Message}
 use Rattle.raft_laws.specs.BallotLists.{AgreeBelow}
 use Rattle.raft_laws.specs.declared.world_event.WorldEvent.{WorldEvent}
+use Rattle.raft_laws.specs.declared.world_event.WorldEvent.TheVariants.{Restart}
 use Rattle.raft_laws.specs.GroupWorld.{GroupWorld, Led, Outcome, Recorded}
 use Rattle.raft_laws.specs.GroupRun.{At, Replays, led_after, outcome_of, scene_of, sent_in, setup_after}
 use Rattle.raft_laws.specs.NodeEvent.{NodeEvent}
@@ -17,10 +18,11 @@ use Rattle.raft_list_facts.specs.declared.leading.Base.TheVariants.{Nothing, UpT
 use Rattle.raft_list_facts.specs.declared.leading.Leading.{Leading}
 use Rattle.raft_list_laws.specs.Accounts.{Accounts, AreTrue}
 use Rattle.raft_list_laws.specs.Bases.{base_of}
+use Rattle.raft_list_laws.specs.Changes.{with_setup}
 use Rattle.raft_group_lists.specs.Notes.{EndsWith, Notes, accounts_of}
 use Rattle.raft_list_steps.specs.declared.report.GroupReport.{GroupReport}
 use Rattle.raft_list_steps.specs.declared.report.SetUp.{SetUp}
-use Rattle.raft_list_steps.specs.Lists.{HasListOf, IsLedFront, IsListOf, IsSetUpAhead, setup_entry}
+use Rattle.raft_list_steps.specs.Lists.{HasListBy, IsLedFront, IsListOf, IsSetUpAhead, setup_entry}
 
 -- ---- the set-up
 
@@ -50,6 +52,10 @@ AcceptsOnce sent = (accepted_by sent ≡ []) ⊎ ((x : Acceptance) × (accepted_
 -- what an event sends, if it does, accepts once at most
 abbrev pub EventsAcceptOnce : Type 0
 EventsAcceptOnce = (w : GroupWorld) (e : WorldEvent) (stops : Bool) → AcceptsOnce (sent_in (outcome_of w e stops))
+
+-- a node that is opened accepts nothing
+abbrev pub OpeningsAcceptNothing : Type 0
+OpeningsAcceptNothing = (w : GroupWorld) (n : ℕ) (stops : Bool) → accepted_by (sent_in (outcome_of w (Restart n) stops)) ≡ []
 
 -- ---- the note of a leader
 
@@ -134,7 +140,13 @@ pub record IsReportAhead (report : GroupReport) (w : GroupWorld) (r : Recorded) 
 abbrev pub HearsAhead : Notes → GroupReport → Notes → Type 0
 HearsAhead s report next =
     (ids : List ℕ) (w : GroupWorld) (r : Recorded) (w' : GroupWorld) → IsBehind ids w r w' → (ahead : IsSetUpAhead s w)
-    → IsReportAhead report w r w' ahead.membership → HasListOf next w'
+    → IsReportAhead report w r w' ahead.membership → HasListBy ahead.membership next w'
+
+-- a set-up alone is heard where nobody led yet, also one that wasn't taken
+abbrev pub HearsSetUp : Notes → GroupReport → Notes → Type 0
+HearsSetUp s report next =
+    (w : GroupWorld) (m : Membership) → SaysSetUp report.set_up (Some m) → report.leading ≡ None → report.accepted ≡ None
+    → w.setup ≡ None → w.led ≡ [] → IsListOf s w → IsListOf next (with_setup w m)
 
 -- the reports of one event after another
 abbrev pub AreReportsOf : List ℕ → List GroupReport → GroupWorld → List Recorded → GroupWorld → Type 0

@@ -1,7 +1,7 @@
 //! The list of a group behind an event.
 ghost use Rattle.std.specs.Prelude.{Some};
 ghost use Rattle.raft_group_lists.specs.Room.{HasRoom};
-ghost use Rattle.raft_list_steps.specs.Reports.{Hears, HearsAhead};
+ghost use Rattle.raft_list_steps.specs.Reports.{Hears, HearsAhead, HearsSetUp};
 ghost use Rattle.raft_list_steps.specs.Steps.{Accepts, Leads, MayLead, SetsUp};
 
 use crate::report::{GroupReport, SetUp};
@@ -99,6 +99,7 @@ pub fn hear(list: &mut GroupList, report: GroupReport)
     requires { HasRoom list.old 2 2 }
     ensures hears { Hears list.old.notes report list.new.notes }
     ensures ahead { HearsAhead list.old.notes report list.new.notes }
+    ensures set_up { HearsSetUp list.old.notes report list.new.notes }
 {
     let GroupReport {
         node,

@@ -1,15 +1,16 @@
 -- Why a call was refused.
-use Rattle.std.proofs.Common.{◌≡◌, ℕ, ◌+◌, ◌-◌, ◌^◌, min, true, false, refl, sym, ap, subst, ◌∙◌}
+use Rattle.std.proofs.Common.{◌≡◌, ℕ, ◌+◌, ◌-◌, ◌^◌, min, Bool, true, false, if◌then◌else◌, refl, sym, ap, subst, ◌∙◌}
 use Rattle.std.specs.Prelude.{Result, Ok, Err, OnErr, IsErrOf}
 use Rattle.raft_log_disk.specs.declared.fault.IoFault.{IoFault}
 use Rattle.raft_log_disk.specs.declared.fault.IoFault.TheVariants.{NotFound, NoSpace, Refused, Memory}
-use Rattle.raft_log_disk.specs.Cause.{Meter, HasCause, HasReadCause, counted}
+use Rattle.raft_log_disk.specs.Cause.{Meter, HasCause, HasReadCause, IsCausedCall, counted, lacked}
 
 -- two calls, the first one taken; the second finds what it names
 pub second_cause : {S T : Type 0} (absent gone : Type 0) (before between after : Meter) (first : S) (second : Result T IoFault)
     → HasCause absent ⊥ before between (Ok first) → HasCause gone ⊥ between after second → (gone → ⊥) → HasCause absent ⊥ before after second
 second_cause absent gone before between after first second a b there = record {
   refused = b.refused ∙ ap (counted second) a.refused;
+  lacks = b.lacks ∙ a.lacks;
   missing = λ e. let h : false ≡ true = a.missing e in absurd cc;
   lacking = b.lacking;
   not_found = λ e. absurd (there (b.not_found e));
@@ -18,9 +19,11 @@ second_cause absent gone before between after first second a b there = record {
 }
 
 -- room was missing
-pub cramped_cause : {T : Type 0} (absent cramped : Type 0) (old new : Meter) (e : IoFault) → e ≡ NoSpace → new.refusals ≡ min (old.refusals + 1) (2 ^ 64 - 1) → new.unreadable ≡ old.unreadable → cramped → HasCause {T = T} absent cramped old new (Err e)
-cramped_cause {T = T} absent cramped old new e is same reads lacks = subst (λ x. HasCause {T = T} absent cramped old new (Err x)) (sym is) (record {
+pub cramped_cause : {T : Type 0} (w : Bool) (absent cramped : Type 0) (old new : Meter) (e : IoFault) → e ≡ NoSpace → new.refusals ≡ min (old.refusals + 1) (2 ^ 64 - 1) → new.lacks ≡ (if w then min (old.lacks + 1) (2 ^ 64 - 1) else old.lacks)
+    → new.unreadable ≡ old.unreadable → cramped → IsCausedCall {T = T} w absent cramped old new (Err e)
+cramped_cause {T = T} w absent cramped old new e is same counts reads lacks = subst (λ x. IsCausedCall {T = T} w absent cramped old new (Err x)) (sym is) (record {
   refused = same;
+  lacks = counts;
   missing = λ e. refl;
   lacking = λ e. refl;
   not_found = λ e. absurd cc;
@@ -41,6 +44,7 @@ same_fault S T e f h = let same : e ≡ f = cc in λ i. Err (same i)
 pub same_cause : {S T : Type 0} (absent cramped : Type 0) (old new : Meter) (e : IoFault) → HasCause {T = S} absent cramped old new (Err e) → HasCause {T = T} absent cramped old new (Err e)
 same_cause {S = S} {T = T} absent cramped old new e cause = record {
   refused = cause.refused ∙ counts_alike S T e old.refusals;
+  lacks = cause.lacks;
   missing = λ x. refl;
   lacking = λ x. refl;
   not_found = λ h. cause.not_found (same_fault S T e NotFound h);
@@ -52,10 +56,15 @@ same_cause {S = S} {T = T} absent cramped old new e cause = record {
 pub unreadable_cause : {T : Type 0} (absent unreadable : Type 0) → unreadable → HasReadCause {T = T} absent unreadable (Err Refused)
 unreadable_cause absent unreadable there = record { missing = λ e. refl; unread = λ e. refl; refused = λ e. there; not_found = λ e. absurd cc; no_space = λ e. absurd cc }
 
+kept_count : (w : Bool) (n m : ℕ) → m ≡ n → m ≡ (if w then n else n)
+kept_count true n m is = is
+kept_count false n m is = is
+
 -- a call that was taken
-pub taken_cause : {T : Type 0} (absent cramped : Type 0) (old new : Meter) (x : T) → new.refusals ≡ old.refusals → new.unreadable ≡ old.unreadable → (absent → ⊥) → (cramped → ⊥) → HasCause absent cramped old new (Ok x)
-taken_cause absent cramped old new x same reads there roomy = record {
+pub taken_cause : {T : Type 0} (w : Bool) (absent cramped : Type 0) (old new : Meter) (x : T) → new.refusals ≡ old.refusals → new.lacks ≡ old.lacks → new.unreadable ≡ old.unreadable → (absent → ⊥) → (cramped → ⊥) → IsCausedCall w absent cramped old new (Ok x)
+taken_cause w absent cramped old new x same counts reads there roomy = record {
   refused = same;
+  lacks = kept_count w old.lacks new.lacks counts;
   missing = λ e. absurd (there e);
   lacking = λ e. absurd (roomy e);
   not_found = λ e. absurd cc;

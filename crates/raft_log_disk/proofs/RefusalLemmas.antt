@@ -1,14 +1,14 @@
 -- What is set to refuse calls, over runs of calls.
-use Rattle.std.proofs.Common.{◌≡◌, ◌⊎◌, inl, inr, ℕ, ◌+◌, ◌-◌, ◌^◌, ◌<◌, ◌≤◌, min, refl, sym, ap, subst, ◌∙◌, arith, List}
+use Rattle.std.proofs.Common.{◌≡◌, ◌⊎◌, inl, inr, ℕ, ◌+◌, ◌-◌, ◌^◌, ◌<◌, ◌≤◌, min, Bool, true, false, if◌then◌else◌, refl, sym, ap, subst, ◌∙◌, arith, List}
 use Rattle.std.specs.Prelude.{Option, Some, None, Result, Ok, Err, IsErrOf, IsTrue}
 use Rattle.raft_log_disk.specs.declared.fault.IoFault.{IoFault}
 use Rattle.raft_log_disk.specs.declared.fault.IoFault.TheVariants.{NotFound, NoSpace, Refused, Memory}
 use Rattle.raft_log_disk.specs.Text.{Text}
 use Rattle.raft_log_disk.specs.Disk.{Disk, LacksRoom}
-use Rattle.raft_log_disk.specs.Cause.{Meter, HasCause, IsOneCall, IsTaken, NothingRefuses, RefusesNoMore, Rises, counted, spent}
+use Rattle.raft_log_disk.specs.Cause.{Meter, IsCausedCall, IsOneCall, IsTaken, Lacks, NothingRefuses, RefusesNoMore, Rises, counted, lacked, spent}
 
 pub no_more_same : (b : Type 0) (m : Meter) → RefusesNoMore b b m m
-no_more_same b m = record { fuse = λ e. e; reads = refl; sound = refl; room = λ x. x; counts = omega arith }
+no_more_same b m = record { fuse = λ e. e; reads = refl; sound = refl; room = λ x. x; counts = omega arith; spaces = omega arith }
 
 pub no_more_then : {a b c : Type 0} {l m n : Meter} → RefusesNoMore a b l m → RefusesNoMore b c m n → RefusesNoMore a c l n
 no_more_then {l = l} {m = m} {n = n} first second = record {
@@ -17,6 +17,7 @@ no_more_then {l = l} {m = m} {n = n} first second = record {
   sound = second.sound ∙ first.sound;
   room = λ x. first.room (second.room x);
   counts = omega (arith, first.counts, second.counts);
+  spaces = omega (arith, first.spaces, second.spaces);
 }
 
 pub still_free : {a b : Type 0} {l m : Meter} → NothingRefuses a l → RefusesNoMore a b l m → NothingRefuses b m
@@ -34,14 +35,23 @@ counts_on (Err NotFound) n k is = omega (arith, is)
 counts_on (Err NoSpace) n k is = omega (arith, is)
 counts_on (Err Memory) n k is = omega (arith, is)
 
+lacks_by : {T : Type 0} (w : Bool) (r : Result T IoFault) (n k : ℕ) → k ≡ (if w then lacked r n else n) → min (n + 0) (2 ^ 64 - 1) ≤ k
+lacks_by true (Ok x) n k is = omega (arith, is)
+lacks_by true (Err Refused) n k is = omega (arith, is)
+lacks_by true (Err NotFound) n k is = omega (arith, is)
+lacks_by true (Err NoSpace) n k is = omega (arith, is)
+lacks_by true (Err Memory) n k is = omega (arith, is)
+lacks_by false r n k is = omega (arith, is)
+
 -- one call
-pub no_more_call : {T : Type 0} (absent cramped barred a b : Type 0) (old new : Meter) (r : Result T IoFault) → HasCause absent cramped old new r → IsOneCall barred old new r → (b → a) → RefusesNoMore a b old new
-no_more_call absent cramped barred a b old new r cause call bound = record {
+pub no_more_call : {T : Type 0} {w : Bool} (absent cramped barred a b : Type 0) (old new : Meter) (r : Result T IoFault) → IsCausedCall w absent cramped old new r → IsOneCall barred old new r → (b → a) → RefusesNoMore a b old new
+no_more_call {w = w} absent cramped barred a b old new r cause call bound = record {
   fuse = λ e. call.left ∙ ap spent e;
   reads = cause.reads;
   sound = call.faulty;
   room = bound;
   counts = counts_on r old.refusals new.refusals cause.refused;
+  spaces = lacks_by w r old.lacks new.lacks cause.lacks;
 }
 
 blown_not : (l : Option ℕ) → l ≡ None → l ≡ Some 0 → ⊥
@@ -53,7 +63,7 @@ refused_only barred a m free (inr (inl faulty)) = absurd (free.sound faulty)
 refused_only barred a m free (inr (inr x)) = x
 
 -- and why it isn't taken
-pub taken_call : {T : Type 0} (absent cramped barred a : Type 0) (old new : Meter) (r : Result T IoFault) → (cramped → barred) → NothingRefuses a old → HasCause absent cramped old new r → IsOneCall barred old new r → IsTaken absent barred r
+pub taken_call : {T : Type 0} {w : Bool} (absent cramped barred a : Type 0) (old new : Meter) (r : Result T IoFault) → (cramped → barred) → NothingRefuses a old → IsCausedCall w absent cramped old new r → IsOneCall barred old new r → IsTaken absent barred r
 taken_call absent cramped barred a old new (Ok x) most free cause call = tt
 taken_call absent cramped barred a old new (Err NotFound) most free cause call = cause.not_found refl
 taken_call absent cramped barred a old new (Err NoSpace) most free cause call = most (cause.no_space refl)
@@ -71,3 +81,14 @@ refusal_rises (Err Refused) old new is e = omega (arith, is)
 refusal_rises (Err NotFound) old new is e = absurd cc
 refusal_rises (Err NoSpace) old new is e = omega (arith, is)
 refusal_rises (Err Memory) old new is e = absurd cc
+
+-- and so is a write without space
+pub lack_counts : {T : Type 0} (r : Result T IoFault) (old new : Meter) → new.lacks ≡ lacked r old.lacks → IsErrOf r NoSpace → Lacks 1 old new
+lack_counts (Ok x) old new is e = absurd cc
+lack_counts (Err Refused) old new is e = absurd cc
+lack_counts (Err NotFound) old new is e = absurd cc
+lack_counts (Err NoSpace) old new is e = omega (arith, is)
+lack_counts (Err Memory) old new is e = absurd cc
+
+pub lacks_then : (m n : ℕ) (a b c : Meter) → Lacks m a b → Lacks n b c → Lacks (m + n) a c
+lacks_then m n a b c first second = omega (arith, first, second)

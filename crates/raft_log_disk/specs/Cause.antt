@@ -1,5 +1,6 @@
 -- Why a call is refused.
-use Rattle.std.specs.Prelude.{◌≡◌, ◌⊎◌, ℕ, ◌+◌, ◌-◌, ◌^◌, ◌≤◌, min, List, [], Option, Some, None, Result, Ok, Err, IsErr, IsErrOf, Bool, IsTrue, is_ok}
+use Rattle.std.specs.Prelude.{◌≡◌, ◌⊎◌, ℕ, ◌+◌, ◌-◌, ◌^◌, ◌≤◌, min, List, [], Option, Some, None, Result, Ok, Err, IsErr, IsErrOf}
+use Rattle.std.specs.Prelude.{Bool, true, false, IsTrue, is_ok, if◌then◌else◌}
 use Rattle.raft_log_disk.specs.declared.fault.IoFault.{IoFault}
 use Rattle.raft_log_disk.specs.declared.fault.IoFault.TheVariants.{NotFound, NoSpace, Refused, Memory}
 
@@ -7,6 +8,8 @@ use Rattle.raft_log_disk.specs.declared.fault.IoFault.TheVariants.{NotFound, NoS
 pub record Meter : Type 0 where
   -- how many changing calls were `Refused` or found no space; it stays at 2^64 - 1
   pub refusals : ℕ
+  -- how many writes found no space; it stays at 2^64 - 1
+  pub lacks : ℕ
   -- how many changing calls are taken before each is refused, if that is known
   pub calls_left : Option ℕ
   -- the paths whose reads are refused
@@ -27,16 +30,33 @@ counted (Err NotFound) refusals = refusals
 counted (Err NoSpace) refusals = min (refusals + 1) (2 ^ 64 - 1)
 counted (Err Memory) refusals = refusals
 
+-- the count of writes without space after one more write
+abbrev pub lacked : {T : Type 0} → Result T IoFault → ℕ → ℕ
+lacked (Ok x) lacks = lacks
+lacked (Err NoSpace) lacks = min (lacks + 1) (2 ^ 64 - 1)
+lacked (Err Refused) lacks = lacks
+lacked (Err NotFound) lacks = lacks
+lacked (Err Memory) lacks = lacks
+
 -- why a changing call was refused: `absent` says that what it names is not there, and `cramped`
 -- that room is missing. Where either holds the call is an error, and `NotFound` and `NoSpace` come
 -- only there
-pub record HasCause {T : Type 0} (absent cramped : Type 0) (old new : Meter) (result : Result T IoFault) : Type 0 where
+pub record IsCausedCall {T : Type 0} (is_write : Bool) (absent cramped : Type 0) (old new : Meter) (result : Result T IoFault) : Type 0 where
   pub refused : new.refusals ≡ counted result old.refusals
+  pub lacks : new.lacks ≡ (if is_write then lacked result old.lacks else old.lacks)
   pub missing : absent → IsErr result
   pub lacking : cramped → IsErr result
   pub not_found : IsErrOf result NotFound → absent
   pub no_space : IsErrOf result NoSpace → cramped
   pub reads : new.unreadable ≡ old.unreadable
+
+-- of a write
+abbrev pub HasWriteCause : {T : Type 0} → (absent cramped : Type 0) → Meter → Meter → Result T IoFault → Type 0
+HasWriteCause absent cramped old new result = IsCausedCall true absent cramped old new result
+
+-- and of another changing call
+abbrev pub HasCause : {T : Type 0} → (absent cramped : Type 0) → Meter → Meter → Result T IoFault → Type 0
+HasCause absent cramped old new result = IsCausedCall false absent cramped old new result
 
 -- it is one changing call. It is refused where no more are taken, never `Ok` where `barred` holds,
 -- and `Refused` for no other reason but by a faulty file system
@@ -81,13 +101,18 @@ pub record NothingRefuses (bounded : Type 0) (meter : Meter) : Type 0 where
 abbrev pub Rises : ℕ → Meter → Meter → Type 0
 Rises n old new = min (old.refusals + n) (2 ^ 64 - 1) ≤ new.refusals
 
--- after some calls no more is set to refuse than before, and the count of refusals didn't fall
+-- the count of writes without space rose by so many at least, or stands at its end
+abbrev pub Lacks : ℕ → Meter → Meter → Type 0
+Lacks n old new = min (old.lacks + n) (2 ^ 64 - 1) ≤ new.lacks
+
+-- after some calls no more is set to refuse than before, and neither count fell
 pub record RefusesNoMore (bounded bounded_then : Type 0) (old new : Meter) : Type 0 where
   pub fuse : old.calls_left ≡ None → new.calls_left ≡ None
   pub reads : new.unreadable ≡ old.unreadable
   pub sound : new.is_faulty ≡ old.is_faulty
   pub room : bounded_then → bounded
   pub counts : Rises 0 old new
+  pub spaces : Lacks 0 old new
 
 -- a call is taken unless memory is missing, what it names isn't there, or what it asks for can't be
 abbrev pub IsTaken : {T : Type 0} → Type 0 → Type 0 → Result T IoFault → Type 0

@@ -55,4 +55,4 @@ room_of [] files directory = 2 ^ 64 - 1
 room_of (s ∷ ss) files directory = if same_text (string_bytes s.directory) directory then s.bytes - used_of files directory else room_of ss files directory
 
 abbrev pub meter_of : Fuse → Meter
-meter_of f = record { refusals = f.refusals; calls_left = f.calls_left; unreadable = texts_of f.unreadable.items; is_faulty = false }
+meter_of f = record { refusals = f.refusals; lacks = f.lacks; calls_left = f.calls_left; unreadable = texts_of f.unreadable.items; is_faulty = false }

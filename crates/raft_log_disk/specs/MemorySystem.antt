@@ -27,7 +27,7 @@ empty_disk = record { directories = []; names = []; file = λ n. no_bytes; next 
 
 -- no call was refused, and none will be but for want of room
 abbrev pub full_meter : Meter
-full_meter = record { refusals = 0; calls_left = None; unreadable = []; is_faulty = false }
+full_meter = record { refusals = 0; lacks = 0; calls_left = None; unreadable = []; is_faulty = false }
 
 -- each file has a path and a number of its own
 pub memory_is_named : (m : MemoryFileSystem) → IsNamed (disk_in m)

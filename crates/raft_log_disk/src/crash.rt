@@ -46,6 +46,7 @@ pub trait CrashFiles: FileSystem {
         ensures disk { Self.FileSystem.disk self.new ≡ Self.FileSystem.disk self.old }
         ensures calls { (Self.FileSystem.meter self.new).calls_left ≡ option_map (λ n. n - 1) first_refused }
         ensures refusals { (Self.FileSystem.meter self.new).refusals ≡ (Self.FileSystem.meter self.old).refusals }
+        ensures lacks { (Self.FileSystem.meter self.new).lacks ≡ (Self.FileSystem.meter self.old).lacks }
         ensures reads { (Self.FileSystem.meter self.new).unreadable ≡ (Self.FileSystem.meter self.old).unreadable }
         ensures faulty { (Self.FileSystem.meter self.new).is_faulty ≡ (Self.FileSystem.meter self.old).is_faulty }
         ensures bound { Self.FileSystem.is_bounded self.new → Self.FileSystem.is_bounded self.old };
@@ -55,6 +56,7 @@ pub trait CrashFiles: FileSystem {
         ensures disk { Self.FileSystem.disk self.new ≡ Self.FileSystem.disk self.old }
         ensures calls { (Self.FileSystem.meter self.new).calls_left ≡ (Self.FileSystem.meter self.old).calls_left }
         ensures refusals { (Self.FileSystem.meter self.new).refusals ≡ (Self.FileSystem.meter self.old).refusals }
+        ensures lacks { (Self.FileSystem.meter self.new).lacks ≡ (Self.FileSystem.meter self.old).lacks }
         ensures reads { (Self.FileSystem.meter self.new).unreadable ≡ map string_bytes paths.items }
         ensures faulty { (Self.FileSystem.meter self.new).is_faulty ≡ (Self.FileSystem.meter self.old).is_faulty }
         ensures bound { Self.FileSystem.is_bounded self.new → Self.FileSystem.is_bounded self.old };

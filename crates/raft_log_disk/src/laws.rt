@@ -1,7 +1,7 @@
 //! Laws of every file system, and of every disk.
 
 ghost use Rattle.std.specs.Prelude.{◌≡◌, ◌≤◌, ◌^◌, ◌++◌, ◌∷◌, ℕ, List, Ok, Result, take};
-ghost use Rattle.raft_log_disk.specs.Cause.{HasCause, IsOneCall, IsTaken, Meter, NothingRefuses};
+ghost use Rattle.raft_log_disk.specs.Cause.{HasCause, HasWriteCause, IsOneCall, IsTaken, Meter, NothingRefuses};
 ghost use Rattle.raft_log_disk.specs.declared.crash.CrashChoice.TheVariants.{Least, Most};
 ghost use Rattle.raft_log_disk.specs.declared.fault.IoFault.{IoFault};
 ghost use Rattle.raft_log_disk.specs.declared.format.LogFileFormat.{LogFileFormat};
@@ -30,7 +30,10 @@ pub fn synced_file_is_left_as_read()
 /// Where nothing is set to refuse, a write and an allocation are refused only for want of memory,
 /// for a file that isn't there, or for one that would reach 2^64 bytes.
 pub fn writes_are_taken<F: FileSystem>(files: &F)
-    ensures { (d : Disk) (fd most bytes : ℕ) (new : Meter) (result : Result (Unit {0}) IoFault) → NothingRefuses (F.is_bounded files.now) (F.meter files.now) → bytes ≤ most
+    ensures written { (d : Disk) (fd most bytes : ℕ) (new : Meter) (result : Result (Unit {0}) IoFault) → NothingRefuses (F.is_bounded files.now) (F.meter files.now) → bytes ≤ most
+        → HasWriteCause (IsNoFile d fd) (LacksRoom (F.room files.now) d fd bytes) (F.meter files.now) new result → IsOneCall (2 ^ 64 ≤ most) (F.meter files.now) new result
+        → IsTaken (IsNoFile d fd) (2 ^ 64 ≤ most) result }
+    ensures allocated { (d : Disk) (fd most bytes : ℕ) (new : Meter) (result : Result (Unit {0}) IoFault) → NothingRefuses (F.is_bounded files.now) (F.meter files.now) → bytes ≤ most
         → HasCause (IsNoFile d fd) (LacksRoom (F.room files.now) d fd bytes) (F.meter files.now) new result → IsOneCall (2 ^ 64 ≤ most) (F.meter files.now) new result
         → IsTaken (IsNoFile d fd) (2 ^ 64 ≤ most) result }
 {

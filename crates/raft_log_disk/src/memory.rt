@@ -48,6 +48,7 @@ impl MemoryFileSystem {
             fuse: Fuse {
                 calls_left: None,
                 refusals: 0,
+                lacks: 0,
                 unreadable: Vec::new(alloc),
             },
         }

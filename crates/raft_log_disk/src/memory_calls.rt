@@ -151,7 +151,7 @@ impl FileSystem for MemoryFileSystem {
         }
         let growth = len.saturating_sub(self.files[i].bytes.len());
         if self.is_cramped(i, growth as u64) {
-            return Err(self.fuse.lack_space());
+            return Err(self.fuse.lack_room());
         }
         self.files[i].truncate(self.alloc, len)?;
         Ok(())
@@ -175,7 +175,7 @@ impl FileSystem for MemoryFileSystem {
         }
         let growth = (at + len).saturating_sub(self.files[i].bytes.len());
         if self.is_cramped(i, growth as u64) {
-            return Err(self.fuse.lack_space());
+            return Err(self.fuse.lack_room());
         }
         self.files[i].allocate(self.alloc, at, len)?;
         Ok(())

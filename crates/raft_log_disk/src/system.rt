@@ -8,7 +8,7 @@ ghost use Rattle.raft_log_disk.specs.declared.fault.IoFault.TheVariants.{Memory,
 ghost use Rattle.raft_log_disk.specs.Disk.{Disk, IsIn, HasDirectory, LacksRoom, RefusedWrite, RefusedAllocate, RefusedTruncate, IsNoFile, IsFile};
 ghost use Rattle.raft_log_disk.specs.Disk.{IsNoMove, IsNoNewFile, HasOneOf, Deletes, Renames, IsNamed};
 ghost use Rattle.raft_log_disk.specs.Disk.{fd_of, listed, with_file, after_create, after_make_dir, after_write, after_truncate, after_allocate, after_sync, put, resized, filled};
-ghost use Rattle.raft_log_disk.specs.Cause.{Meter, HasCause, HasReadCause, IsOneCall, IsPassedOver, UnlessRefused, spent};
+ghost use Rattle.raft_log_disk.specs.Cause.{Meter, HasCause, HasReadCause, HasWriteCause, IsOneCall, IsPassedOver, UnlessRefused, spent};
 ghost use Rattle.raft_log_disk.specs.Image.{HasImages};
 
 use crate::{Fd, IoFault, Permission};
@@ -143,7 +143,7 @@ pub trait FileSystem: Send + Sync {
             (put ((disk self.old).file fd.0).bytes at bytes.now))) }
         ensures err { OnErr result ((disk self.new ≡ disk self.old) ⊎ RefusedWrite (disk self.old) (disk self.new) fd.0 at bytes.now) }
         ensures unchanged { UnlessRefused result (disk self.new ≡ disk self.old) }
-        ensures cause { HasCause (IsNoFile (disk self.old) fd.0) (LacksRoom (room self.old) (disk self.old) fd.0
+        ensures cause { HasWriteCause (IsNoFile (disk self.old) fd.0) (LacksRoom (room self.old) (disk self.old) fd.0
             (at + length bytes.now - length ((disk self.old).file fd.0).bytes)) (meter self.old) (meter self.new) result }
         ensures call { IsOneCall (2 ^ 64 ≤ at + length bytes.now) (meter self.old) (meter self.new) result }
         ensures bound { is_bounded self.new → is_bounded self.old };

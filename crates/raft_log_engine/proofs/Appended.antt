@@ -1,5 +1,5 @@
 -- What an append makes of a pipe, with a sync behind it or without.
-use Rattle.std.proofs.Common.{◌≡◌, ◌⊎◌, inl, inr, ℕ, Bool, true, false, List, [], ◌∷◌, ◌++◌, length, take, drop, refl, sym, ap, subst, ◌∙◌, append_assoc}
+use Rattle.std.proofs.Common.{◌≡◌, ◌⊎◌, inl, inr, ⊎_elim, ℕ, Bool, true, false, List, [], ◌∷◌, ◌++◌, length, take, drop, refl, sym, ap, subst, ◌∙◌, append_assoc}
 use Rattle.std.proofs.lemmas.Bool.{false≢true}
 use Rattle.std.proofs.lemmas.List.{append-nil, take-append-drop}
 use Rattle.std.proofs.Math.Seq.{drop-append_seam, take-append_seam}
@@ -7,10 +7,15 @@ use Rattle.raft_log_records.specs.declared.file_id.FileBlockHandle.{FileBlockHan
 use Rattle.raft_log_disk.specs.Disk.{Disk}
 use Rattle.raft_log_file.specs.Laws.{Batch}
 use Rattle.raft_log_pipe.specs.declared.pipe.SinglePipe.{SinglePipe}
+use Rattle.raft_log_pipe.specs.Alone.{IsAlone}
+use Rattle.raft_log_pipe.specs.Torn.{TearsAtEnd}
+use Rattle.raft_log_pipe.proofs.TornLemmas.{held_torn}
 use Rattle.raft_log_pipe.specs.Appending.{Appends, LeavesAppended, Stands}
 use Rattle.raft_log_pipe.specs.Blocks.{IsRecordOf}
 use Rattle.raft_log_pipe.specs.Pipe.{Numbered, Holds, Leaves}
 use Rattle.raft_log_pipe.proofs.PipeLemmas.{holds_leaves, leaves_less}
+use Rattle.raft_log_pipes.specs.Kept.{KeepSettings}
+use Rattle.raft_log_pipes.specs.declared.pipes.DualPipes.{DualPipes}
 use Rattle.raft_log_pipes.specs.Pipes.{IsAsBefore}
 use Rattle.raft_log_engine.specs.Held.{HoldsMore}
 
@@ -82,6 +87,12 @@ unsynced_leaves old p new d e f seq items appends keeps s u holds =
     let m : HoldsMore p e false s l = appended_more old p d e seq items appends s u holds in
     (seq, more_leaves new f false s l (record { count = m.count; holds = keeps (s ++ take m.count l) (drop m.count l) m.holds; none = m.none }))
 
+-- and no file torn
+pub unsynced_torn : (old p new : SinglePipe) (d e f : Disk) (seq : ℕ) (items : Batch) → (IsAlone old d → IsAlone new f) → Appends old d p e seq items → ((s u : Numbered) → Holds p e s u → Holds new f s u) → TearsAtEnd old d new f
+unsynced_torn old p new d e f seq items on appends keeps alone s u holds =
+    ⊎_elim (λ same. held_torn new f (on alone) s (u ++ (seq, items) ∷ []) (keeps s (u ++ (seq, items) ∷ []) same))
+    (λ next. held_torn new f (on alone) (s ++ u) ((seq, items) ∷ []) (keeps (s ++ u) ((seq, items) ∷ []) next)) (appends s u holds)
+
 -- the record stands where it stood
 pub still_stands : (old p new : SinglePipe) (d : Disk) (items : Batch) (h : FileBlockHandle) → Stands old d p items h → new.queue ≡ p.queue → new.active ≡ p.active → Stands old d new items h
 still_stands old p new d items h stands queue active s u holds =
@@ -98,3 +109,7 @@ then_as_before p q r d e f first second = record {
   holds = λ s u holds. second.holds s u (first.holds s u holds);
   alone = λ alone. second.alone (first.alone alone);
 }
+
+-- settings that two calls keep
+pub set_then : (p q r : DualPipes) → KeepSettings p q → KeepSettings q r → KeepSettings p r
+set_then p q r first second = ((second.0.0 ∙ first.0.0, second.0.1 ∙ first.0.1), (second.1.0 ∙ first.1.0, second.1.1 ∙ first.1.1))

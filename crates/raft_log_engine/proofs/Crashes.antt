@@ -10,7 +10,7 @@ use Rattle.raft_log_disk.specs.declared.crash.CrashRefusal.TheVariants.{ByChance
 use Rattle.raft_log_disk.specs.declared.memory.MemoryFileSystem.{MemoryFileSystem}
 use Rattle.raft_log_disk.specs.Chance.{IsGenuine, IsGenuineImage}
 use Rattle.raft_log_disk.specs.Disk.{Disk, FileState, IsIn, settled}
-use Rattle.raft_log_disk.specs.Image.{Image, IsFileImage, IsImageOf, after_crash, image_of, seen_image}
+use Rattle.raft_log_disk.specs.Image.{Image, IsFileImage, IsImage, IsImageOf, after_crash, image_of, seen_image}
 use Rattle.raft_log_disk.specs.MemoryImages.{memory_images}
 use Rattle.raft_log_disk.specs.MemorySystem.{disk_in, memory_is_named}
 use Rattle.raft_log_disk.specs.Name.{log_file_of}
@@ -19,9 +19,11 @@ use Rattle.raft_log_disk.proofs.LawLemmas.{all_among, most_is_an_image, still_im
 use Rattle.raft_log_files.specs.declared.config.Config.{Config}
 use Rattle.raft_log_memtables.specs.Content.{Content}
 use Rattle.raft_log_pipe.specs.Alone.{Names}
+use Rattle.raft_log_pipes.specs.declared.pipes.DualPipes.{DualPipes}
 use Rattle.raft_log_recovery.specs.Crashed.{IsCrashed}
 use Rattle.raft_log_engine.specs.Held.{Parts}
-use Rattle.raft_log_engine.specs.Log.{CantBeLeftSo, IsCrashedLog, IsFoundBy, IsSameLog, LogOn, MayBeFound, leaves_of_log}
+use Rattle.raft_log_engine.specs.Log.{CantBeLeftSo, IsCrashedLog, IsFoundBy, IsLog, IsSameLog, LogOn, MayBeFound, leaves_of_log, main_directory}
+use Rattle.raft_log_engine.specs.Reopened.{OpensInTail, StandAlone, directories_of_engine, directories_of_pipes}
 use Rattle.raft_log_engine.proofs.Logs.{found_as_read}
 
 -- ---- why files can't be left so
@@ -43,21 +45,32 @@ each_with P Q R (e ∷ es) h p q = (h e p.0 q.0, each_with P Q R es h p.1 q.1)
 abbrev Shows : Disk → Image → Text × ℕ → Type 0
 Shows d i x = MatchOption (log_file_of x.0) (Unit {0}) (λ id. IsGenuine id (d.file x.1) (i x.1))
 
+-- an image of the second one is that of the first
+left_same : (d e : Disk) (image later : Image) → IsCrashed d image e → e ≡ after_crash d image → IsImage e later → AllByRecursion (λ x. later x.1 ≡ image x.1) d.names
+left_same d e image later first is second =
+    all_among (λ x. IsFileImage (e.file x.1) (later x.1)) (λ x. later x.1 ≡ image x.1) d.names
+    (λ x there i. still_image (settled (d.file x.1) (image x.1)) (later x.1) refl refl refl (subst (λ (y : Disk). IsFileImage (y.file x.1) (later x.1)) is i))
+    (subst (AllByRecursion (λ x. IsFileImage (e.file x.1) (later x.1))) first.names second)
+
+left_again : (d e : Disk) (image later : Image) → IsCrashed d image e → e ≡ after_crash d image → IsImage e later → IsImage d later
+left_again d e image later first is second =
+    each_with (λ x. later x.1 ≡ image x.1) (λ x. IsFileImage (d.file x.1) (image x.1)) (λ x. IsFileImage (d.file x.1) (later x.1)) d.names (λ x same i. subst (IsFileImage (d.file x.1)) (sym same) i) (left_same d e image later first is second) first.is
+
 -- what a second one leaves the first one might have left
 crashed_again : (d e left : Disk) (image later : Image) → IsCrashed d image e → e ≡ after_crash d image → IsCrashed e later left → IsCrashed d later left
 crashed_again d e left image later first is second = record {
-  is = each_with (λ x. later x.1 ≡ image x.1) (λ x. IsFileImage (d.file x.1) (image x.1)) (λ x. IsFileImage (d.file x.1) (later x.1)) d.names (λ x same i. subst (IsFileImage (d.file x.1)) (sym same) i) same first.is;
+  is = left_again d e image later first is second.is;
   genuine = each_with (λ x. later x.1 ≡ image x.1) (Shows d image) (Shows d later) d.names
-      (λ x same i. subst (λ (l : List ℕ). MatchOption (log_file_of x.0) (Unit {0}) (λ id. IsGenuine id (d.file x.1) l)) (sym same) i) same first.genuine;
+      (λ x same i. subst (λ (l : List ℕ). MatchOption (log_file_of x.0) (Unit {0}) (λ id. IsGenuine id (d.file x.1) l)) (sym same) i) (left_same d e image later first is second.is) first.genuine;
   names = second.names ∙ first.names;
   bytes = second.bytes;
 }
-  where
-    same : AllByRecursion (λ x. later x.1 ≡ image x.1) d.names
-    same =
-        all_among (λ x. IsFileImage (e.file x.1) (later x.1)) (λ x. later x.1 ≡ image x.1) d.names
-        (λ x there i. still_image (settled (d.file x.1) (image x.1)) (later x.1) refl refl refl (subst (λ (y : Disk). IsFileImage (y.file x.1) (later x.1)) is i))
-        (subst (AllByRecursion (λ x. IsFileImage (e.file x.1) (later x.1))) first.names second.is)
+
+-- what an opening that tolerates a torn tail refuses then it would have refused
+pub crashed_in_tail : (directories : List Text) (d e : Disk) (p : DualPipes) (image : Image) → IsCrashed d image e → e ≡ after_crash d image → OpensInTail directories d p → OpensInTail directories e p
+crashed_in_tail directories d e p image crashed is opens later left queue second cant =
+    let hole = opens later left queue (crashed_again d e left image later crashed is second) cant in
+    (hole.0, hole.1, crashed.bytes hole.0.handle.0 ∙ hole.3 image crashed.is, λ x are. hole.3 x (left_again d e image x crashed is are))
 
 -- ---- what a crashed log leaves
 
@@ -125,3 +138,29 @@ is_crashed old new (Err why) left same settings = record {
 -- also where it takes no write any more
 pub crashed_still : (old new : LogOn MemoryFileSystem) → IsCrashedLog disk_in old new → IsCrashedLog disk_in old (record new { has_failed = true })
 crashed_still old new c = record { settings = c.settings; found = c.found }
+
+-- ---- a log whose engine changed in nothing that is said of it
+
+module _ {F : Type 0} (disk : F → Disk) (settings : Config) (has_failed : Bool) (old new : Parts F) (log : IsLog disk old settings has_failed) (pipes : new.pipes ≡ old.pipes) where
+  tail_on : (d : Disk) → OpensInTail (main_directory settings) d old.pipes → OpensInTail (main_directory settings) d new.pipes
+  tail_on d opens = subst (OpensInTail (main_directory settings) d) (sym pipes) opens
+
+  in_main_on : directories_of_engine new ≡ main_directory settings
+  in_main_on = ap directories_of_pipes pipes ∙ log.directories
+
+  pub log_on : new.is_stopped ≡ old.is_stopped → new.wrote_unsynced ≡ old.wrote_unsynced → disk new.files ≡ disk old.files → IsLog disk new settings has_failed
+  log_on stopped wrote same = record {
+    directories = in_main_on;
+    sound = λ on. record { goes_on = stopped ∙ (log.sound on).goes_on; synced = wrote ∙ (log.sound on).synced };
+    alone = λ on. subst (λ (p : DualPipes). StandAlone p (disk new.files)) (sym pipes) (subst (StandAlone old.pipes) (sym same) (log.alone on));
+    in_tail = tail_on (disk new.files) (subst (λ (d : Disk). OpensInTail (main_directory settings) d old.pipes) (sym same) log.in_tail);
+  }
+
+  -- or whose files crashed
+  pub log_crashed : (image : Image) → IsCrashed (disk old.files) image (disk new.files) → disk new.files ≡ after_crash (disk old.files) image → IsLog disk new settings true
+  log_crashed image crashed is = record {
+    directories = in_main_on;
+    sound = λ on. absurd (false≢true (sym on));
+    alone = λ on. absurd (false≢true (sym on));
+    in_tail = tail_on (disk new.files) (crashed_in_tail (main_directory settings) (disk old.files) (disk new.files) old.pipes image crashed is log.in_tail);
+  }

@@ -1,5 +1,5 @@
 -- Entries of a range, from where they lie.
-use Rattle.std.proofs.Common.{◌≡◌, ◌⊎◌, inl, inr, ℕ, suc, ◌+◌, ◌<◌, ◌≤◌, Bool, true, false, List, [], ◌∷◌, ◌++◌, length, map, Option, Some, None, Vec, Global, refl, sym, ap, subst, ◌∙◌, arith}
+use Rattle.std.proofs.Common.{◌≡◌, ◌⊎◌, inl, inr, ℕ, suc, ◌+◌, ◌-◌, ◌<◌, ◌≤◌, Bool, true, false, List, [], ◌∷◌, ◌++◌, length, map, Option, Some, None, Vec, Global, refl, sym, ap, subst, ◌∙◌, arith}
 use Rattle.std.proofs.lemmas.Bool.{cases_lt}
 use Rattle.std.proofs.lemmas.List.{length-map}
 use Rattle.std.proofs.lemmas.List.Sums.{sum_by-append, sum_by-cons}
@@ -12,6 +12,7 @@ use Rattle.raft_log_records.specs.Batch.{payloads}
 use Rattle.raft_log_memtables.specs.Content.{GroupContent}
 use Rattle.raft_log_memtables.specs.ContentLaws.{group_map}
 use Rattle.raft_log_memtables.specs.Fetch.{AreFetched, Fits, IsInside}
+use Rattle.raft_content_log.specs.Leaving.{AreEntries}
 use Rattle.raft_log_engine.specs.declared.fault.EngineFault.{EngineFault}
 use Rattle.raft_log_engine.specs.Reads.{AreRead, FitsIn, HasRead}
 
@@ -111,3 +112,11 @@ pub copied_count : (r : Result (Vec (Vec ℕ Global) Global) EngineFault) (read 
 copied_count (Err e) read es old new are few = tt
 copied_count (Ok found) read es old new are few =
     omega (arith, few, length-map es read, ap length are, length-map found.items (λ (v : Vec ℕ Global). v.items))
+
+-- where none is left out these are the entries of the range
+pub all_read : (group : GroupContent (List ℕ)) (begin end : ℕ) (found : List (List ℕ)) → HasRead group begin end None found → length found ≡ end - begin → AreEntries group.entry begin end found
+all_read group begin end found read len = record { len = len; each = λ i lt. by_there i (omega (arith, lt, len)) group.there refl }
+  where
+    by_there : (i : ℕ) → i < length found → (b : Bool) → group.there ≡ b → slice_get found i ≡ group.entry (begin + i)
+    by_there i lt true is = (read.there is).each i lt
+    by_there i lt false is = absurd (omega (arith, lt, ap length (read.unknown is)))

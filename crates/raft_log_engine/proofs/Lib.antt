@@ -21,3 +21,4 @@ pub mod Taken
 pub mod Corrupt
 pub mod Caused
 pub mod Whole
+pub mod Unopened

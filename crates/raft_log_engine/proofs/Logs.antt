@@ -20,7 +20,7 @@ use Rattle.raft_log_engine.specs.Held.{Parts}
 use Rattle.raft_log_engine.specs.Left.{answers_on}
 use Rattle.raft_log_engine.specs.Log.{IsFoundBy, LogOn, MayBeFound, leaves_of_log, main_directory}
 use Rattle.raft_log_engine.specs.Opening.{IsFoundContent}
-use Rattle.raft_log_engine.specs.Reopened.{OpensAs, OpensAsEither, directories_of_engine}
+use Rattle.raft_log_engine.specs.Reopened.{OpensAs, OpensAsEither, OpensInTail, directories_of_engine}
 use Rattle.raft_log_engine.proofs.Clauses.{leaves_elsewhere}
 use Rattle.raft_log_engine.proofs.Reopened.{same_directories}
 
@@ -58,6 +58,11 @@ module _ {F : Type 0} (disk : F → Disk) (settings : Config) where
 
   pub still_in_main : (old new : Parts F) → IsInMain old → new.pipes.append.paths ≡ old.pipes.append.paths → IsInMain new
   still_in_main old new at paths = same_directories old.pipes.append new.pipes.append paths ∙ at
+
+  -- what an opening that tolerates a torn tail refuses there
+  pub written_in_main : (old new : Parts F) → IsInMain old → new.pipes.append.paths ≡ old.pipes.append.paths → OpensInTail (directories_of_engine new) (disk new.files) new.pipes
+      → OpensInTail (main_directory settings) (disk new.files) new.pipes
+  written_in_main old new at paths opens = subst (λ (l : List Text). OpensInTail l (disk new.files) new.pipes) (still_in_main old new at paths) opens
 
   -- what holds of all that an opening in the engine's directories finds
   found_there : (e : Parts F) (P : Seen → Type 0) → IsInMain e

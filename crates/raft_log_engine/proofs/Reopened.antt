@@ -80,7 +80,7 @@ pub record KeepsRewrites (p : DualPipes) (d : Disk) (q : DualPipes) (e : Disk) :
 pub same_directories : (p q : SinglePipe) → q.paths ≡ p.paths → directories_of_pipe q ≡ directories_of_pipe p
 same_directories p q same = ap (λ (v : Vec (String Global) Global). map string_bytes v.items) same
 
-paths_on : (p q : DualPipes) (d e : Disk) → KeepsRewrites p d q e → StandAlone p d → directories_of_pipe q.rewrite ≡ directories_of_pipe q.append
+pub paths_on : (p q : DualPipes) (d e : Disk) → KeepsRewrites p d q e → StandAlone p d → directories_of_pipe q.rewrite ≡ directories_of_pipe q.append
 paths_on p q d e keeps alone = ap directories_of_pipe keeps.other.same ∙ alone.paths ∙ sym (same_directories p.append q.append keeps.paths)
 
 rewrite_on : (p q : DualPipes) (d e : Disk) → KeepsRewrites p d q e → StandAlone p d → IsAlone q.rewrite e
@@ -134,12 +134,12 @@ torn_opens d p before content r bs us named stand alone leaves fronts image e mo
 -- ---- a close
 
 -- after it, refused or not, a crash leaves what it left before
-pub closed_leaves : (p q : SinglePipe) (d e : Disk) (r : Result (Unit {0}) Error) (s u : Numbered) → OnOk r ((x y : Numbered) → Holds p d x y → Holds q e (x ++ y) []) → OnErr r ((x y : Numbered) → Holds p d x y → Leaves q e x y)
+pub closed_leaves : (p q : SinglePipe) (d e : Disk) (r : Result (Unit {0}) Error) (s u : Numbered) → OnOk r ((x y : Numbered) → Holds p d x y → Holds q e (x ++ y) []) → OnErr r ((x y : Numbered) → Holds p d x y → Holds q e x y)
     → Holds p d s u → Leaves q e s u
 closed_leaves p q d e (Ok x) s u ok err holds =
     subst (λ (l : Numbered). Leaves q e s l) (append-nil u)
     (leaves_less q.queue (q.older.items ++ q.active ∷ []) e s u [] (holds_leaves q.queue q.older.items q.active q.writer.offset e (s ++ u) [] (ok s u holds)))
-closed_leaves p q d e (Err x) s u ok err holds = err s u holds
+closed_leaves p q d e (Err x) s u ok err holds = holds_leaves q.queue q.older.items q.active q.writer.offset e s u (err s u holds)
 
 -- What a crash leaves then, of the rewrite queue and of the append queue
 pub record IsClosed (p q : DualPipes) (e : Disk) (r s u : Numbered) : Type 0 where

@@ -1,11 +1,12 @@
 -- An opening that tolerates a torn tail refuses nothing of what a crash left of an engine's files.
 use Rattle.std.proofs.Common.{◌≡◌, ℕ, Bool, List, [], ◌∷◌, ◌++◌, take, drop, sym, ap, subst, ◌∙◌}
-use Rattle.std.specs.Prelude.{Ok}
+use Rattle.std.specs.Prelude.{Result, Ok, Err, OnOk, OnErr}
 use Rattle.raft_log_records.specs.declared.file_id.LogQueue.{LogQueue}
 use Rattle.raft_log_records.specs.declared.file_id.LogQueue.TheVariants.{Append, Rewrite}
 use Rattle.raft_log_disk.specs.Disk.{Disk, IsIn, IsNamed}
-use Rattle.raft_log_disk.specs.Image.{Image}
+use Rattle.raft_log_disk.specs.Image.{Image, IsImage}
 use Rattle.raft_log_disk.specs.Text.{Text}
+use Rattle.raft_log_files.specs.declared.error.Error.{Error}
 use Rattle.raft_log_files.specs.declared.recovery.RecoveryMode.TheVariants.{TolerateTailCorruption}
 use Rattle.raft_log_file.specs.Laws.{Batch}
 use Rattle.raft_log_pipe.specs.declared.file.File.{File}
@@ -13,36 +14,45 @@ use Rattle.raft_log_pipe.specs.declared.pipe.SinglePipe.{SinglePipe}
 use Rattle.raft_log_pipe.specs.Alone.{IsAlone, directories_of_pipe}
 use Rattle.raft_log_pipe.specs.Pipe.{Holds, Numbered}
 use Rattle.raft_log_pipes.specs.declared.pipes.DualPipes.{DualPipes}
+use Rattle.raft_log_pipe.specs.Torn.{IsTornAtEnd, TearsAtEnd}
 use Rattle.raft_log_pipe.proofs.AloneLemmas.{alone_on}
+use Rattle.raft_log_pipe.proofs.TornLemmas.{held_torn}
 use Rattle.raft_log_pipes.specs.Calls.{IsCloseOf}
 use Rattle.raft_log_pipes.specs.Pipes.{IsAsBefore, pipe_of}
 use Rattle.raft_log_memtables.specs.Content.{Content}
-use Rattle.raft_log_recovery.specs.Crashed.{HasHole, IsCrashed}
+use Rattle.raft_log_recovery.specs.Crashed.{HasLastingHole, IsCrashed}
 use Rattle.raft_log_recovery.proofs.TailLemmas.{torn_opened}
 use Rattle.raft_log_engine.specs.Held.{HoldsMore, Parts}
 use Rattle.raft_log_engine.specs.Opening.{CantBeOpened}
 use Rattle.raft_log_engine.specs.Reopened.{OpensInTail, StandAlone, StandsAlone, StandsInTail, directories_of_engine, directories_of_pipes}
 use Rattle.raft_log_engine.specs.Since.{HasWritten}
 use Rattle.raft_log_engine.proofs.Clauses.{HeldBy}
-use Rattle.raft_log_engine.proofs.Reopened.{same_directories}
+use Rattle.raft_log_engine.proofs.Reopened.{KeepsRewrites, paths_on, same_directories}
 
--- one of these files has no bytes
+-- one of these files has no bytes, and no crash leaves it any
 abbrev HasOlderHole : Disk → List File → Type 0
-HasOlderHole d fs = (f : File) × IsIn f fs × ((d.file f.handle.0).bytes ≡ [])
+HasOlderHole d fs = (f : File) × IsIn f fs × ((d.file f.handle.0).bytes ≡ []) × ((image : Image) → IsImage d image → image f.handle.0 ≡ [])
 
 -- of one queue
-queue_in_tail : (d : Disk) (q : SinglePipe) (queue : LogQueue) (bs us : Numbered) → IsNamed d → q.queue ≡ queue → IsAlone q d → Holds q d bs us → (image : Image) (e : Disk) → IsCrashed d image e
-    → CantBeOpened TolerateTailCorruption (directories_of_pipe q) queue e → HasHole q d
-queue_in_tail d q queue bs us named is alone holds image e crashed =
-    subst (λ (x : LogQueue). CantBeOpened TolerateTailCorruption (directories_of_pipe q) x e → HasHole q d) is
-    (λ cant. torn_opened q d bs us named alone holds image e cant.made cant.names crashed cant.makes cant.found cant.refused)
+queue_in_tail : (d : Disk) (q : SinglePipe) (queue : LogQueue) → IsNamed d → q.queue ≡ queue → IsTornAtEnd q d → (image : Image) (e : Disk) → IsCrashed d image e → CantBeOpened TolerateTailCorruption (directories_of_pipe q) queue e
+    → HasLastingHole q d
+queue_in_tail d q queue named is torn image e crashed =
+    subst (λ (x : LogQueue). CantBeOpened TolerateTailCorruption (directories_of_pipe q) x e → HasLastingHole q d) is
+    (λ cant. torn_opened q d named torn image e cant.made cant.names crashed cant.makes cant.found cant.refused)
 
 -- of both
+pub torn_in_tail : (d : Disk) (p : DualPipes) → IsNamed d → directories_of_pipe p.rewrite ≡ directories_of_pipe p.append → IsTornAtEnd p.rewrite d → IsTornAtEnd p.append d → OpensInTail (directories_of_pipes p) d p
+torn_in_tail d p named paths rewrite append image e Append crashed cant = queue_in_tail d p.append Append named p.appends append image e crashed cant
+torn_in_tail d p named paths rewrite append image e Rewrite crashed cant =
+    queue_in_tail d p.rewrite Rewrite named p.rewrites rewrite image e crashed (subst (λ (l : List Text). CantBeOpened TolerateTailCorruption l Rewrite e) (sym paths) cant)
+
 pub held_in_tail : (d : Disk) (p : DualPipes) (r bs us : Numbered) → IsNamed d → StandAlone p d → Holds p.rewrite d r [] → Holds p.append d bs us → OpensInTail (directories_of_pipes p) d p
-held_in_tail d p r bs us named alone rewrite append image e Append crashed cant = queue_in_tail d p.append Append bs us named p.appends alone.append append image e crashed cant
-held_in_tail d p r bs us named alone rewrite append image e Rewrite crashed cant =
-    queue_in_tail d p.rewrite Rewrite r [] named p.rewrites alone.rewrite rewrite image e crashed
-    (subst (λ (l : List Text). CantBeOpened TolerateTailCorruption l Rewrite e) (sym alone.paths) cant)
+held_in_tail d p r bs us named alone rewrite append = torn_in_tail d p named alone.paths (held_torn p.rewrite d alone.rewrite r [] rewrite) (held_torn p.append d alone.append bs us append)
+
+-- behind a call on the append queue, refused or not
+pub left_in_tail : (p q : DualPipes) (d e : Disk) (r s u : Numbered) → IsNamed e → KeepsRewrites p d q e → StandAlone p d → Holds p.rewrite d r [] → Holds p.append d s u → TearsAtEnd p.append d q.append e → OpensInTail (directories_of_pipes q) e q
+left_in_tail p q d e r s u named keeps alone rewrite append tears =
+    torn_in_tail e q named (paths_on p q d e keeps alone) (held_torn q.rewrite e (keeps.other.alone alone.rewrite) r [] (keeps.other.holds r [] rewrite)) (tears alone.append s u append)
 
 -- with one more batch
 pub more_in_tail : {F : Type 0} (disk : F → Disk) (old : Parts F) → HeldBy disk old → (files : F) (p : DualPipes) (sync : Bool) (seq : ℕ) (items : Batch) → IsNamed (disk files) → StandAlone p (disk files)
@@ -63,27 +73,53 @@ module _ {F : Type 0} (disk : F → Disk) (e : Parts F) (named : IsNamed (disk e
   pub stands_in_tail : HeldBy disk e → StandsInTail disk e
   stands_in_tail held = record { alone = alone; opens = held_in_tail (disk e.files) e.pipes held.rewrites held.synced held.unsynced named alone held.held.rewrite held.held.append }
 
--- ---- both queues were closed
+-- ---- a close
 
-module _ (p q t : DualPipes) (d e f : Disk) (done ended : Unit {0}) (first : IsCloseOf p.append d q.append e (Ok done)) (other : IsAsBefore p.rewrite d q.rewrite e) (second : IsCloseOf q.rewrite e t.rewrite f (Ok ended)) (beside : IsAsBefore q.append e t.append f)
-    (alone : StandAlone p d) (r s u : Numbered) (rewrite : Holds p.rewrite d r []) (append : Holds p.append d s u) where
-  closed_paths : t.append.paths ≡ p.append.paths
-  closed_paths = ap (λ (y : SinglePipe). y.paths) beside.same ∙ first.paths
+-- refused or not, it tears no file
+closed_torn : (p q : SinglePipe) (d e : Disk) (x : Result (Unit {0}) Error) → q.queue ≡ p.queue → IsCloseOf p d q e x → TearsAtEnd p d q e
+closed_torn p q d e x queue call alone s u holds = by_result x call.ok call.err
+  where
+    there : IsAlone q e
+    there = alone_on p q d e (call.same.0, call.same.1, queue) call.paths call.names alone
 
-  closed_stand : StandAlone t f
-  closed_stand = record {
-    paths = same_directories q.rewrite t.rewrite second.paths ∙ ap directories_of_pipe other.same ∙ alone.paths ∙ sym (same_directories p.append t.append closed_paths);
-    append = beside.alone (alone_on p.append q.append d e (first.same.0, first.same.1, q.appends ∙ sym p.appends) first.paths first.names alone.append);
-    rewrite = alone_on q.rewrite t.rewrite e f (second.same.0, second.same.1, t.rewrites ∙ sym q.rewrites) second.paths second.names (other.alone alone.rewrite);
-  }
+    by_result : (r : Result (Unit {0}) Error) → OnOk r ((a b : Numbered) → Holds p d a b → Holds q e (a ++ b) []) → OnErr r ((a b : Numbered) → Holds p d a b → Holds q e a b) → IsTornAtEnd q e
+    by_result (Ok done) ok err = held_torn q e there (s ++ u) [] (ok s u holds)
+    by_result (Err why) ok err = held_torn q e there s u (err s u holds)
 
-  -- the files before the last ones stayed
-  hole_before : (queue : LogQueue) → HasHole (pipe_of t queue) f → HasHole (pipe_of p queue) f
-  hole_before Append hole = subst (HasOlderHole f) (ap (λ (x : SinglePipe). x.older.items) beside.same ∙ (λ i. (first.same.1 i).items)) hole
-  hole_before Rewrite hole = subst (HasOlderHole f) ((λ i. (second.same.1 i).items) ∙ ap (λ (x : SinglePipe). x.older.items) other.same) hole
+-- the files before the last ones stay
+same_in_tail : (p q : DualPipes) (e : Disk) → directories_of_pipes q ≡ directories_of_pipes p → q.append.older ≡ p.append.older → q.rewrite.older ≡ p.rewrite.older → OpensInTail (directories_of_pipes q) e q → OpensInTail (directories_of_pipes p) e p
+same_in_tail p q e paths append rewrite opens image left queue crashed cant =
+    hole_before queue (opens image left queue crashed (subst (λ (l : List Text). CantBeOpened TolerateTailCorruption l queue left) (sym paths) cant))
+  where
+    hole_before : (x : LogQueue) → HasLastingHole (pipe_of q x) e → HasLastingHole (pipe_of p x) e
+    hole_before Append hole = subst (HasOlderHole e) (λ i. (append i).items) hole
+    hole_before Rewrite hole = subst (HasOlderHole e) (λ i. (rewrite i).items) hole
 
-  pub closed_in_tail : IsNamed f → OpensInTail (directories_of_pipes p) f p
-  closed_in_tail named image left queue crashed cant =
-      hole_before queue
-      (held_in_tail f t (r ++ []) (s ++ u) [] named closed_stand (second.ok r [] (other.holds r [] rewrite)) (beside.holds (s ++ u) [] (first.ok s u append)) image left queue crashed
-      (subst (λ (l : List Text). CantBeOpened TolerateTailCorruption l queue left) (sym (same_directories p.append t.append closed_paths)) cant))
+module _ (p q : DualPipes) (d e : Disk) (x : Result (Unit {0}) Error) (first : IsCloseOf p.append d q.append e x) (other : IsAsBefore p.rewrite d q.rewrite e) (alone : StandAlone p d) (r s u : Numbered) (rewrite : Holds p.rewrite d r []) (append : Holds p.append d s u) where
+  first_queue : q.append.queue ≡ p.append.queue
+  first_queue = q.appends ∙ sym p.appends
+
+  first_alone : IsAlone q.append e
+  first_alone = alone_on p.append q.append d e (first.same.0, first.same.1, first_queue) first.paths first.names alone.append
+
+  -- the append queue was closed, or that was refused
+  pub first_in_tail : IsNamed e → OpensInTail (directories_of_pipes p) e p
+  first_in_tail named =
+      same_in_tail p q e (same_directories p.append q.append first.paths) first.same.1 (ap (λ (y : SinglePipe). y.older) other.same)
+      (left_in_tail p q d e r s u named (record { paths = first.paths; other = other }) alone rewrite append (closed_torn p.append q.append d e x first_queue first))
+
+  -- then the rewrite queue was, or that was refused
+  module _ (t : DualPipes) (f : Disk) (y : Result (Unit {0}) Error) (second : IsCloseOf q.rewrite e t.rewrite f y) (beside : IsAsBefore q.append e t.append f) where
+    closed_paths : t.append.paths ≡ p.append.paths
+    closed_paths = ap (λ (z : SinglePipe). z.paths) beside.same ∙ first.paths
+
+    append_torn : (a : Result (Unit {0}) Error) → OnOk a ((m n : Numbered) → Holds p.append d m n → Holds q.append e (m ++ n) []) → OnErr a ((m n : Numbered) → Holds p.append d m n → Holds q.append e m n) → IsTornAtEnd t.append f
+    append_torn (Ok done) ok err = held_torn t.append f (beside.alone first_alone) (s ++ u) [] (beside.holds (s ++ u) [] (ok s u append))
+    append_torn (Err why) ok err = held_torn t.append f (beside.alone first_alone) s u (beside.holds s u (err s u append))
+
+    pub both_in_tail : IsNamed f → OpensInTail (directories_of_pipes p) f p
+    both_in_tail named =
+        same_in_tail p t f (same_directories p.append t.append closed_paths) (ap (λ (z : SinglePipe). z.older) beside.same ∙ first.same.1) (second.same.1 ∙ ap (λ (z : SinglePipe). z.older) other.same)
+        (torn_in_tail f t named (same_directories q.rewrite t.rewrite second.paths ∙ ap directories_of_pipe other.same ∙ alone.paths ∙ sym (same_directories p.append t.append closed_paths))
+        (closed_torn q.rewrite t.rewrite e f y (t.rewrites ∙ sym q.rewrites) second (other.alone alone.rewrite) r [] (other.holds r [] rewrite))
+        (append_torn x first.ok first.err))

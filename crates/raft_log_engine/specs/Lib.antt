@@ -11,3 +11,4 @@ pub mod Since
 pub mod Taken
 pub mod Caused
 pub mod Closing
+pub mod Unopened

@@ -14,7 +14,7 @@ use Rattle.raft_log_recovery.specs.Crashed.{IsCrashed}
 use Rattle.raft_log_engine.specs.Held.{Parts}
 use Rattle.raft_log_engine.specs.Left.{IsSound, answers_on}
 use Rattle.raft_log_engine.specs.Opening.{IsFoundContent}
-use Rattle.raft_log_engine.specs.Reopened.{StandsAlone, directories_of_engine}
+use Rattle.raft_log_engine.specs.Reopened.{OpensInTail, StandsAlone, directories_of_engine}
 
 -- what contracts see of a log
 pub record LogOn (F : Type 0) : Type 0 where
@@ -38,11 +38,13 @@ pub record MayBeFound (settings : Config) (d : Disk) (content : Content (List �
   pub crashed : IsCrashed d image left
   pub found : IsFoundBy settings left content
 
--- The engine's files lie in the main directory. Unless a write was refused each was synced, and they are the last ones there
+-- The engine's files lie in the main directory. Unless a write was refused each was synced, and they are the last ones there. In any
+-- case an opening that tolerates a torn tail refuses nothing that a crash leaves of them, but where a pipe has a hole
 pub record IsLog {F : Type 0} (disk : F → Disk) (e : Parts F) (settings : Config) (has_failed : Bool) : Type 0 where
   pub directories : directories_of_engine e ≡ main_directory settings
   pub sound : has_failed ≡ false → IsSound e
   pub alone : has_failed ≡ false → StandsAlone disk e
+  pub in_tail : OpensInTail (main_directory settings) (disk e.files) e.pipes
 
 -- what the next opening may answer: what is found after a crash, or what the log answers unless a write was refused
 abbrev pub leaves_of_log : {F : Type 0} → (F → Disk) → LogOn F → Content (List ℕ) → Type 0

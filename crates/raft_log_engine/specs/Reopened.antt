@@ -11,7 +11,7 @@ use Rattle.raft_log_pipe.specs.Alone.{IsAlone, directories_of_pipe}
 use Rattle.raft_log_pipes.specs.declared.pipes.DualPipes.{DualPipes}
 use Rattle.raft_log_pipes.specs.Pipes.{pipe_of}
 use Rattle.raft_log_memtables.specs.Content.{Content}
-use Rattle.raft_log_recovery.specs.Crashed.{HasHole, IsCrashed}
+use Rattle.raft_log_recovery.specs.Crashed.{HasLastingHole, IsCrashed}
 use Rattle.raft_content_log.specs.Leaving.{IsEither}
 use Rattle.raft_log_engine.specs.Held.{Parts}
 use Rattle.raft_log_engine.specs.Opening.{CantBeOpened, IsFoundContent}
@@ -34,9 +34,9 @@ OpensAsFront directories d before batches =
     → (k : ℕ) × (found ≡ after_batches (take k batches) before)
 
 -- Whatever a crash leaves of a disk, an opening that tolerates a torn tail finds nothing that it refuses: no fault before the last
--- file of a queue, and no alignment. But where a pipe has a hole: a file without bytes before its last one
+-- file of a queue, and no alignment. But where a pipe has a hole: a file before its last one has no bytes, and no crash leaves it any
 abbrev pub OpensInTail : List Text → Disk → DualPipes → Type 0
-OpensInTail directories d p = (image : Image) (e : Disk) (queue : LogQueue) → IsCrashed d image e → CantBeOpened TolerateTailCorruption directories queue e → HasHole (pipe_of p queue) d
+OpensInTail directories d p = (image : Image) (e : Disk) (queue : LogQueue) → IsCrashed d image e → CantBeOpened TolerateTailCorruption directories queue e → HasLastingHole (pipe_of p queue) d
 
 -- where files of both queues lie
 abbrev pub directories_of_pipes : DualPipes → List Text

@@ -8,6 +8,8 @@ ghost use Rattle.raft_log_pipe.specs.Blocks.{KeepsFiles};
 ghost use Rattle.raft_log_pipe.specs.Caused.{IsAppendFault};
 ghost use Rattle.raft_log_pipe.specs.Pipe.{Holds, IsPopulated, Numbered};
 ghost use Rattle.raft_log_pipe.specs.Taken.{IsAppendTaken};
+ghost use Rattle.raft_log_pipe.specs.Torn.{TearsAtEnd};
+ghost use Rattle.raft_log_pipes.specs.Kept.{KeepSettings};
 ghost use Rattle.raft_log_pipes.specs.Pipes.{ArePipes, IsAsBefore};
 ghost use Rattle.raft_log_records.specs.Spelling.{AreItems, record_len};
 
@@ -27,6 +29,7 @@ pub(crate) fn append_batch<F: FileSystem>(
     requires items { AreItems batch.old.items }
     ensures pipes { OnOk result (ArePipes pipes.new (F.disk files.new)) }
     ensures paths { pipes.new.append.paths ≡ pipes.old.append.paths }
+    ensures set { KeepSettings pipes.old pipes.new }
     ensures alone { OnOk result (IsAlone pipes.old.append (F.disk files.old) → IsAlone pipes.new.append (F.disk files.new)) }
     ensures nearly { OnErr result (IsAlone pipes.old.append (F.disk files.old) → IsNearlyAlone pipes.new.append (F.disk files.new)) }
     ensures other { IsAsBefore pipes.old.rewrite (F.disk files.old) pipes.new.rewrite (F.disk files.new) }
@@ -37,6 +40,7 @@ pub(crate) fn append_batch<F: FileSystem>(
     ensures stands { IfOk result (Stands pipes.old.append (F.disk files.old) pipes.new.append batch.old.items) }
     ensures err { OnErr result ((synced unsynced : Numbered) → Holds pipes.old.append (F.disk files.old) synced unsynced
         → LeavesAppended pipes.new.append (F.disk files.new) synced unsynced batch.old.items) }
+    ensures torn { OnErr result (TearsAtEnd pipes.old.append (F.disk files.old) pipes.new.append (F.disk files.new)) }
     ensures fits { IfOk result (λ h. h.offset + record_len batch.old.items < 2 ^ 64) }
     ensures later { RefusesNoMore (F.is_bounded files.old) (F.is_bounded files.new) (F.meter files.old) (F.meter files.new) }
     ensures taken { NothingRefuses (F.is_bounded files.old) (F.meter files.old) → IsAppendTaken pipes.old.append (F.disk files.old) batch.old.items result }

@@ -13,6 +13,7 @@ ghost use Rattle.raft_log_file.specs.Laws.{Batch};
 ghost use Rattle.raft_log_memtables.specs.Content.{Content, after_batch};
 ghost use Rattle.raft_log_memtables.specs.MemTables.{content_in};
 ghost use Rattle.raft_log_pipe.specs.Alone.{main_of};
+ghost use Rattle.raft_log_pipes.specs.Kept.{KeepSettings};
 ghost use Rattle.raft_log_records.specs.Batch.{nothing_logged, payloads};
 ghost use Rattle.raft_log_records.specs.Spelling.{record_len};
 
@@ -47,9 +48,10 @@ impl<F: FileSystem + Drop> Engine<F> {
             (answers_on F.disk self.old) (after_batch batch.old.items (answers_on F.disk self.old))) }
         ensures sound { IsSound self.old → OnOk result (sync ≡ true → IsSound self.new) }
         ensures paths { self.new.pipes.append.paths ≡ self.old.pipes.append.paths }
+        ensures set { KeepSettings self.old.pipes self.new.pipes }
         ensures alone { StandsAlone F.disk self.old → OnOk result (StandsAlone F.disk self.new) }
         ensures opens { StandsAlone F.disk self.old → OnOk result (sync ≡ true → OpensAs (directories_of_engine self.new) (F.disk self.new.files) (answers_on F.disk self.new)) }
-        ensures opens_in_tail { StandsAlone F.disk self.old → OnOk result (OpensInTail (directories_of_engine self.new) (F.disk self.new.files) self.new.pipes) }
+        ensures opens_in_tail { self.old.is_stopped ≡ false → StandsAlone F.disk self.old → OpensInTail (directories_of_engine self.new) (F.disk self.new.files) self.new.pipes }
         ensures goes_on_in_tail { StandsAlone F.disk self.old → self.new.is_stopped ≡ false → StandsInTail F.disk self.new }
         ensures opens_either { IsSound self.old → StandsAlone F.disk self.old → OnErr result (OpensAsEither (directories_of_engine self.new) (F.disk self.new.files)
             (answers_on F.disk self.old) (after_batch batch.old.items (answers_on F.disk self.old))) }
@@ -106,10 +108,11 @@ impl<F: FileSystem + Drop> Engine<F> {
         ensures kept { IsSound self.new → IsSound self.old × (answers_on F.disk self.new ≡ answers_on F.disk self.old) }
         ensures left { LeavesNoMore (leaves_on F.disk self.old) (leaves_on F.disk self.new) }
         ensures paths { self.new.pipes.append.paths ≡ self.old.pipes.append.paths }
+        ensures set { KeepSettings self.old.pipes self.new.pipes }
         ensures alone { StandsAlone F.disk self.old → StandsAlone F.disk self.new }
         ensures opens { StandsAlone F.disk self.old → OnOk result (OpensAs (directories_of_engine self.new) (F.disk self.new.files) (answers_on F.disk self.new)) }
         ensures opens_still { IsSound self.old → StandsAlone F.disk self.old → OpensAs (directories_of_engine self.new) (F.disk self.new.files) (answers_on F.disk self.old) }
-        ensures opens_in_tail { StandsAlone F.disk self.old → OnOk result (OpensInTail (directories_of_engine self.new) (F.disk self.new.files) self.new.pipes) }
+        ensures opens_in_tail { self.old.is_stopped ≡ false → StandsAlone F.disk self.old → OpensInTail (directories_of_engine self.new) (F.disk self.new.files) self.new.pipes }
         ensures goes_on_in_tail { StandsAlone F.disk self.old → self.new.is_stopped ≡ false → StandsInTail F.disk self.new }
         ensures written { (before : Content (List ℕ)) (batches : List Batch) → HasWritten F.disk self.old before batches → HasWritten F.disk self.new before batches }
         ensures opens_front { (before : Content (List ℕ)) (batches : List Batch) → StandsAlone F.disk self.old → HasWritten F.disk self.old before batches

@@ -13,6 +13,7 @@ ghost use Rattle.raft_log_file.specs.Laws.{Batch};
 ghost use Rattle.raft_log_files.specs.declared.error.Error.TheVariants.{Memory};
 ghost use Rattle.raft_log_memtables.specs.Content.{Content, after_batch};
 ghost use Rattle.raft_log_memtables.specs.Fetch.{count_before};
+ghost use Rattle.raft_log_pipes.specs.Kept.{KeepSettings};
 
 use crate::blocks::of_record;
 use crate::engine::Engine;
@@ -44,9 +45,10 @@ impl<F: FileSystem + Drop> Engine<F> {
             (answers_on F.disk self.old) (after_batch (compaction group index ∷ []) (answers_on F.disk self.old))) }
         ensures sound { IsSound self.old → OnOk result (IsSound self.new) }
         ensures paths { self.new.pipes.append.paths ≡ self.old.pipes.append.paths }
+        ensures set { KeepSettings self.old.pipes self.new.pipes }
         ensures alone { StandsAlone F.disk self.old → OnOk result (StandsAlone F.disk self.new) }
         ensures opens { StandsAlone F.disk self.old → OnOk result (OpensAs (directories_of_engine self.new) (F.disk self.new.files) (answers_on F.disk self.new)) }
-        ensures opens_in_tail { StandsAlone F.disk self.old → OnOk result (OpensInTail (directories_of_engine self.new) (F.disk self.new.files) self.new.pipes) }
+        ensures opens_in_tail { self.old.is_stopped ≡ false → StandsAlone F.disk self.old → OpensInTail (directories_of_engine self.new) (F.disk self.new.files) self.new.pipes }
         ensures goes_on_in_tail { StandsAlone F.disk self.old → self.new.is_stopped ≡ false → StandsInTail F.disk self.new }
         ensures opens_either { IsSound self.old → StandsAlone F.disk self.old → OnErr result (OpensAsEither (directories_of_engine self.new) (F.disk self.new.files)
             (answers_on F.disk self.old) (after_batch (compaction group index ∷ []) (answers_on F.disk self.old))) }

@@ -2,7 +2,9 @@
 ghost use Rattle.std.specs.Prelude.{◌≡◌, ℕ, List, true, OnOk, OnErr};
 ghost use Rattle.raft_log_disk.specs.Image.{Image, after_crash, image_of};
 ghost use Rattle.raft_log_disk.specs.MemorySystem.{disk_in};
+ghost use Rattle.raft_log_disk.specs.Text.{Text};
 ghost use Rattle.raft_log_engine.specs.Log.{IsFoundBy, IsSameLog, leaves_of_log};
+ghost use Rattle.raft_log_engine.specs.Reopened.{OpensInTail};
 ghost use Rattle.raft_log_memtables.specs.Content.{Content};
 ghost use Rattle.raft_log_recovery.specs.Crashed.{IsCrashed};
 
@@ -13,7 +15,8 @@ use raft_log_files::{CrashChoice, CrashFiles, CrashRefusal};
 
 impl<F: CrashFiles + Drop> Engine<F> {
     /// Leaves of the files what the choice says, as where a machine stops (own). The engine is stopped
-    /// then, as after a write that failed. After an `Err` the files have what they had, and nothing
+    /// then, as after a write that failed. An opening that tolerates a torn tail refuses nothing then
+    /// that it wouldn't have refused before. After an `Err` the files have what they had, and nothing
     /// else changed.
     pub fn crash(&mut self, choice: &CrashChoice) -> Result<(), CrashRefusal>
         ensures crashed { OnOk result (IsCrashed (F.FileSystem.disk self.old.files) (image_of choice.now (F.FileSystem.disk self.old.files).names (F.FileSystem.disk self.old.files).file)
@@ -23,6 +26,8 @@ impl<F: CrashFiles + Drop> Engine<F> {
         ensures stops { OnOk result (self.new ≡ record self.old { files = self.new.files; is_stopped = true }) }
         ensures err { OnErr result (F.FileSystem.disk self.new.files ≡ F.FileSystem.disk self.old.files) }
         ensures same { OnErr result (self.new ≡ record self.old { files = self.new.files }) }
+        ensures in_tail { OnOk result ((directories : List Text) → OpensInTail directories (F.FileSystem.disk self.old.files) self.old.pipes
+            → OpensInTail directories (F.FileSystem.disk self.new.files) self.new.pipes) }
     {
         self.files.crash(choice)?;
         self.is_stopped = true;

@@ -2,13 +2,14 @@
 //!
 //! The calls of an engine hold for each file system. The log is over one of them: in an impl of a
 //! trait no bound of a type parameter says that it crosses threads, and a file system does.
-ghost use Rattle.std.specs.Prelude.{◌≡◌, ℕ, List, true, false, Err, IfOk, IfErr, IsErrAnd, OnOk, OnErr};
+ghost use Rattle.std.specs.Prelude.{◌≡◌, ℕ, List, true, false, Err, IfOk, IfErr, IsErrAnd, MatchResult, OnOk, OnErr};
 ghost use Rattle.raft_content_log.specs.Leaving.{LeavesOnly};
 ghost use Rattle.raft_log_disk.specs.declared.crash.CrashRefusal.TheVariants.{ByChance, NotAnImage};
 ghost use Rattle.raft_log_disk.specs.Chance.{IsGenuineImage};
 ghost use Rattle.raft_log_disk.specs.Disk.{Disk};
 ghost use Rattle.raft_log_disk.specs.Image.{Image, seen_image};
-ghost use Rattle.raft_log_disk.specs.MemorySystem.{disk_in, meter_in};
+ghost use Rattle.raft_log_disk.specs.Cause.{NothingRefuses, RefusesNoMore};
+ghost use Rattle.raft_log_disk.specs.MemorySystem.{disk_in, is_bounded_in, meter_in};
 ghost use Rattle.raft_log_engine.specs.Caused.{IsSyncFault};
 ghost use Rattle.raft_log_engine.specs.declared.fault.EngineFault.TheVariants as engine_fault;
 ghost use Rattle.raft_log_engine.specs.Closing.{handed_back};
@@ -16,9 +17,10 @@ ghost use Rattle.raft_log_engine.specs.Left.{answers_on};
 ghost use Rattle.raft_log_engine.specs.Log.{IsFoundBy, leaves_of_log, main_directory};
 ghost use Rattle.raft_log_engine.specs.Opening.{AreSetAs, CantBeOpened, HasHolesIn, IsLeftByOpening};
 ghost use Rattle.raft_log_engine.specs.Reopened.{OpensInTail};
+ghost use Rattle.raft_log_engine.specs.Unopened.{IsOpeningFault, IsUnopenable};
 ghost use Rattle.raft_log_files.specs.declared.error.CorruptionFault.{CorruptionFault};
 ghost use Rattle.raft_log_files.specs.declared.error.Error.TheVariants.{Corruption};
-ghost use Rattle.raft_log_files.specs.Settings.{settings_of};
+ghost use Rattle.raft_log_files.specs.Settings.{settings_fault, settings_of};
 ghost use Rattle.raft_log_memtables.specs.Content.{Content, nothing};
 ghost use Rattle.raft_log_pipe.specs.Alone.{IsOnce, Names};
 ghost use Rattle.raft_log_records.specs.declared.file_id.LogQueue.{LogQueue};
@@ -75,6 +77,7 @@ fn in_one_directory(settings: &Config) -> Result<Config, AllocError>
     ensures directories { IfOk result (λ config. directories_of (settings_of config) ≡ main_directory settings.now) }
     ensures mode { IfOk result (λ config. config.recovery_mode ≡ settings.now.recovery_mode) }
     ensures sizes { IfOk result (λ config. (config.target_file_size ≡ settings.now.target_file_size) × (config.format_version ≡ settings.now.format_version)) }
+    ensures fault { IfOk result (λ config. settings_fault (settings_of config) ≡ settings_fault (settings_of settings.now)) }
     ensures once { IfOk result (λ config. (names : Names) (queue : LogQueue) → IsOnce names (directories_of (settings_of config)) queue) }
 {
     let mut config = settings.clone()?;
@@ -142,6 +145,12 @@ impl MemoryLog {
             → IsFoundBy files.settings (disk_in files.files) content) }
         ensures corrupt { IfErr result (λ refused. (f : CorruptionFault) → refused.fault ≡ engine_fault.Log (Corruption f)
             → (queue : LogQueue) × CantBeOpened files.settings.recovery_mode (main_directory files.settings) queue (disk_in files.files)) }
+        ensures later { MatchResult result (λ l. RefusesNoMore (is_bounded_in files.files) (is_bounded_in l.engine.files) (meter_in files.files) (meter_in l.engine.files))
+            (λ refused. RefusesNoMore (is_bounded_in files.files) (is_bounded_in refused.files.files) (meter_in files.files) (meter_in refused.files.files)) }
+        ensures cause { IfErr result (λ refused. IsOpeningFault (settings_fault (settings_of files.settings)) files.settings.recovery_mode (main_directory files.settings)
+            (disk_in files.files) (disk_in refused.files.files) (is_bounded_in files.files) (meter_in files.files) (meter_in refused.files.files) refused.fault) }
+        ensures taken { NothingRefuses (is_bounded_in files.files) (meter_in files.files) → IfErr result (λ refused. IsUnopenable (settings_fault (settings_of files.settings))
+            files.settings.recovery_mode (main_directory files.settings) (disk_in files.files) (disk_in refused.files.files) refused.fault) }
     {
         let LogFiles { settings, files } = files;
         let Ok(config) = in_one_directory(&settings) else {
@@ -183,7 +192,7 @@ impl MemoryLog {
             → leaves_of_log disk_in self content }
         ensures as_read { (content : Content (List ℕ)) → IsGenuineImage (disk_in (handed_back result).files) (seen_image (disk_in (handed_back result).files))
             → IsFoundBy (handed_back result).settings (disk_in (handed_back result).files) content → leaves_of_log disk_in self content }
-        ensures opens_in_tail { IfOk result (λ closed. OpensInTail (main_directory self.settings) (disk_in closed.files) self.engine.pipes) }
+        ensures opens_in_tail { OpensInTail (main_directory self.settings) (disk_in (handed_back result).files) self.engine.pipes }
         ensures failed { self.has_failed ≡ true → IsErrAnd result (λ refused. (refused.fault ≡ engine_fault.Stopped) × (refused.files.files ≡ self.engine.files)) }
         ensures cause { IfErr result (λ refused. self.has_failed ≡ false → IsSyncFault self.engine (meter_in self.engine.files) (meter_in refused.files.files) refused.fault) }
     {
@@ -216,7 +225,7 @@ impl MemoryLog {
             → leaves_of_log disk_in self content }
         ensures as_read { (content : Content (List ℕ)) → IsGenuineImage (disk_in result.files) (seen_image (disk_in result.files))
             → IsFoundBy result.settings (disk_in result.files) content → leaves_of_log disk_in self content }
-        ensures opens_in_tail { self.has_failed ≡ false → OpensInTail (main_directory self.settings) (disk_in result.files) self.engine.pipes }
+        ensures opens_in_tail { OpensInTail (main_directory self.settings) (disk_in result.files) self.engine.pipes }
     {
         LogFiles {
             settings: self.settings,

@@ -1,6 +1,6 @@
 //! Opening an engine with the files that are there.
-ghost use Rattle.std.specs.Prelude.{◌≡◌, ℕ, true, false, List, [], Err, IfOk, IfErr, IsErrAnd, IsOk, MatchOption, OnErr, Some};
-ghost use Rattle.raft_log_disk.specs.Cause.{RefusesNoMore};
+ghost use Rattle.std.specs.Prelude.{◌≡◌, ℕ, true, false, List, [], Err, IfOk, IfErr, IsErrAnd, IsOk, MatchOption, MatchResult, None, OnErr, Some};
+ghost use Rattle.raft_log_disk.specs.Cause.{NothingRefuses, RefusesNoMore};
 ghost use Rattle.raft_log_engine.specs.Caused.{IsSyncFault};
 ghost use Rattle.raft_log_engine.specs.Closing.{handed_back};
 ghost use Rattle.raft_log_engine.specs.Left.{IsSound, answers_on};
@@ -8,6 +8,7 @@ ghost use Rattle.raft_log_engine.specs.declared.fault.EngineFault.TheVariants.{L
 ghost use Rattle.raft_log_engine.specs.Opening.{AreSetAs, CantBeOpened, HasHolesIn, IsFoundAgain, IsFoundContent, IsLeftByOpening, IsRecoveredAs};
 ghost use Rattle.raft_log_engine.specs.Reopened.{OpensAs, OpensAsFront, OpensInTail, StandAlone, StandsAlone, directories_of_engine, directories_of_pipes};
 ghost use Rattle.raft_log_engine.specs.Since.{HasWritten};
+ghost use Rattle.raft_log_engine.specs.Unopened.{IsOpeningFault, IsUnopenable};
 ghost use Rattle.raft_log_file.specs.Laws.{Batch};
 ghost use Rattle.raft_log_memtables.specs.Content.{Content, nothing};
 ghost use Rattle.raft_log_pipe.specs.Alone.{IsOnce};
@@ -73,6 +74,11 @@ fn recovered<F: FileSystem>(
     ensures reads { OnErr result (IsFoundAgain config.recovery_mode (directories_of (settings_of config)) (F.disk files.old) (F.disk files.new)) }
     ensures corrupt { (f : CorruptionFault) → result ≡ Err (Log (Corruption f))
         → (queue : LogQueue) × CantBeOpened config.recovery_mode (directories_of (settings_of config)) queue (F.disk files.old) }
+    ensures later { RefusesNoMore (F.is_bounded files.old) (F.is_bounded files.new) (F.meter files.old) (F.meter files.new) }
+    ensures cause { IfErr result (λ fault. IsOpeningFault None config.recovery_mode (directories_of (settings_of config)) (F.disk files.old) (F.disk files.new)
+        (F.is_bounded files.old) (F.meter files.old) (F.meter files.new) fault) }
+    ensures taken { NothingRefuses (F.is_bounded files.old) (F.meter files.old)
+        → IfErr result (λ fault. IsUnopenable None config.recovery_mode (directories_of (settings_of config)) (F.disk files.old) (F.disk files.new) fault) }
 {
     let mut builder = DualPipesBuilder::new(alloc, config);
     builder.scan(files)?;
@@ -99,6 +105,11 @@ fn found_soundly<F: FileSystem>(
     ensures corrupt { (f : CorruptionFault) → result ≡ Err (Log (Corruption f))
         → (queue : LogQueue) × CantBeOpened config.recovery_mode (directories_of (settings_of config)) queue (F.disk files.old) }
     ensures refused { (f : OtherFault) → settings_fault (settings_of config) ≡ Some f → (result ≡ Err (Log (Other f))) × (files.new ≡ files.old) }
+    ensures later { RefusesNoMore (F.is_bounded files.old) (F.is_bounded files.new) (F.meter files.old) (F.meter files.new) }
+    ensures cause { IfErr result (λ fault. IsOpeningFault (settings_fault (settings_of config)) config.recovery_mode (directories_of (settings_of config)) (F.disk files.old) (F.disk files.new)
+        (F.is_bounded files.old) (F.meter files.old) (F.meter files.new) fault) }
+    ensures taken { NothingRefuses (F.is_bounded files.old) (F.meter files.old)
+        → IfErr result (λ fault. IsUnopenable (settings_fault (settings_of config)) config.recovery_mode (directories_of (settings_of config)) (F.disk files.old) (F.disk files.new) fault) }
 {
     let sound = sound_settings(config)?;
     recovered(files, alloc, sound)
@@ -131,6 +142,13 @@ impl<F: FileSystem + Drop> Engine<F> {
         ensures corrupt { IfErr result (λ refused. (f : CorruptionFault) → refused.fault ≡ Log (Corruption f)
             → (queue : LogQueue) × CantBeOpened config.recovery_mode (directories_of (settings_of config)) queue (F.disk files)) }
         ensures refused { (f : OtherFault) → settings_fault (settings_of config) ≡ Some f → IsErrAnd result (λ refused. (refused.fault ≡ Log (Other f)) × (refused.files ≡ files)) }
+        ensures later { MatchResult result (λ e. RefusesNoMore (F.is_bounded files) (F.is_bounded e.files) (F.meter files) (F.meter e.files))
+            (λ refused. RefusesNoMore (F.is_bounded files) (F.is_bounded refused.files) (F.meter files) (F.meter refused.files)) }
+        ensures cause { IfErr result (λ refused. IsOpeningFault (settings_fault (settings_of config)) config.recovery_mode (directories_of (settings_of config)) (F.disk files)
+            (F.disk refused.files) (F.is_bounded files) (F.meter files) (F.meter refused.files) refused.fault) }
+        ensures taken { NothingRefuses (F.is_bounded files) (F.meter files)
+            → IfErr result (λ refused. IsUnopenable (settings_fault (settings_of config)) config.recovery_mode (directories_of (settings_of config))
+            (F.disk files) (F.disk refused.files) refused.fault) }
     {
         match found_soundly(&mut files, alloc, config) {
             Ok((pipes, tables)) => Ok(Engine {
@@ -155,7 +173,7 @@ impl<F: FileSystem + Drop> Engine<F> {
         ensures opens_all { StandsAlone F.disk self → IfOk result (λ files. OpensAs (directories_of_engine self) (F.disk files) (answers_on F.disk self)) }
         ensures opens_front { (before : Content (List ℕ)) (batches : List Batch) → StandsAlone F.disk self → HasWritten F.disk self before batches
             → OpensAsFront (directories_of_engine self) (F.disk (handed_back result)) before batches }
-        ensures opens_in_tail { self.is_stopped ≡ false → StandsAlone F.disk self → IfOk result (λ files. OpensInTail (directories_of_engine self) (F.disk files) self.pipes) }
+        ensures opens_in_tail { self.is_stopped ≡ false → StandsAlone F.disk self → OpensInTail (directories_of_engine self) (F.disk (handed_back result)) self.pipes }
         ensures later { RefusesNoMore (F.is_bounded self.files) (F.is_bounded (handed_back result)) (F.meter self.files) (F.meter (handed_back result)) }
         ensures cause { IfErr result (λ refused. IsSyncFault self (F.meter self.files) (F.meter refused.files) refused.fault) }
         ensures stopped { self.is_stopped ≡ true → IsErrAnd result (λ refused. (refused.fault ≡ Stopped) × (refused.files ≡ self.files)) }

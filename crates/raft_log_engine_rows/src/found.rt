@@ -14,7 +14,8 @@ use std::alloc::{AllocError, Global};
 /// How many bytes the two entries of a group have, and whether they are what was written.
 pub type Lengths = (u64, Vec<usize>, bool);
 
-fn refused_by(fault: IoFault) -> EngineFault {
+/// What an engine tells of a refusal by the files.
+pub(crate) fn refused_by(fault: IoFault) -> EngineFault {
     EngineFault::Log(Error::from(fault))
 }
 

@@ -6,7 +6,7 @@ use crate::found::{littered, many_groups, spilled, unread};
 use crate::logs::{crash, genuine, refused_openings};
 use crate::patient::keeps_told;
 use crate::reopening::{config_of, reopened, run_of};
-use crate::stops::{Plan, stops_of};
+use crate::stops::{Plan, closes_of, first_stops, stops_of};
 use raft_log_engine::{Engine, EngineFault};
 use raft_log_files::{Error, FileSystem, IoFault, MemoryFileSystem};
 use raft_log_records::Version;
@@ -79,6 +79,20 @@ fn plan_of<'a>(words: &'a [&'a str]) -> Option<Plan<'a>> {
         mode,
         target_size: number(target_size),
         count: number(count),
+        space: None,
+    })
+}
+
+/// The answer to a row of stops in a directory of so many bytes, or of refused closes.
+fn stop_row(alloc: Global, words: &[&str]) -> Option<Answer> {
+    Some(match words {
+        ["cramped", space, calls, plan @ ..] => {
+            let mut plan = plan_of(plan)?;
+            plan.space = Some(number(space));
+            Answer::shown(alloc, &first_stops(alloc, plan, number(calls)))
+        }
+        ["closes", plan @ ..] => Answer::shown(alloc, &closes_of(alloc, plan_of(plan)?)),
+        _ => log_row(alloc, words)?,
     })
 }
 
@@ -132,7 +146,7 @@ impl Rows for Calls {
             }
             ["changed", bits, rest @ ..] => harm_row(alloc, Some(byte_of(bits)), rest)?,
             ["cut", rest @ ..] => harm_row(alloc, None, rest)?,
-            _ => log_row(alloc, words)?,
+            _ => stop_row(alloc, words)?,
         })
     }
 }

@@ -1,9 +1,10 @@
 //! A client that is stopped at each changing call of its files in turn, and then opens them again.
 
+use crate::found::refused_by;
 use crate::reopening::{config_of, crashed, opened_as};
 use raft_log_disk::CrashFiles;
 use raft_log_engine::{Engine, EngineFault};
-use raft_log_files::MemoryFileSystem;
+use raft_log_files::{FileSystem, IoFault, MemoryFileSystem};
 use raft_log_records::{LogBatch, RecordError};
 use std::alloc::Global;
 
@@ -18,6 +19,8 @@ pub struct Plan<'a> {
     pub target_size: u64,
     /// How many batches are written.
     pub count: u64,
+    /// The bytes of the directory, if it has a limit.
+    pub space: Option<u64>,
 }
 
 /// What the opening behind a stop shows: how many batches were told, and which are found. `None`
@@ -93,9 +96,36 @@ pub(crate) fn found_of(
     Ok(Some(found))
 }
 
+/// Makes the directory, of so many bytes.
+fn limited(files: &mut MemoryFileSystem, bytes: u64) -> Result<(), IoFault> {
+    files.make_dir("main")?;
+    files.set_space("main", bytes)?;
+    Ok(())
+}
+
+/// The files behind a stop are crashed, and opened again without a limit: which batches are found.
+fn found_behind(
+    files: MemoryFileSystem,
+    alloc: Global,
+    plan: Plan,
+) -> Result<Option<Vec<u64>>, EngineFault> {
+    let mut files = crashed(files, plan.how)?;
+    files.fuse(None);
+    if plan.space.is_some() {
+        files.set_space("main", u64::MAX)?;
+    }
+    let mut engine = opened_as(files, alloc, plan.target_size, plan.mode)?;
+    found_of(&mut engine, alloc, plan.count)
+}
+
 /// Stops a client at a changing call, crashes its files and opens them again.
 fn stopped_at(alloc: Global, plan: Plan, call: u64) -> Result<Stop, EngineFault> {
     let mut files = MemoryFileSystem::new(alloc);
+    if let Some(bytes) = plan.space {
+        if let Err(fault) = limited(&mut files, bytes) {
+            return Err(refused_by(fault));
+        }
+    }
     files.fuse(Some(call));
     let config = config_of(alloc, plan.target_size, plan.mode)?;
     let (files, told) = match Engine::open_alone(files, alloc, config) {
@@ -105,10 +135,7 @@ fn stopped_at(alloc: Global, plan: Plan, call: u64) -> Result<Stop, EngineFault>
         }
         Err(refused) => (refused.files, 0),
     };
-    let mut files = crashed(files, plan.how)?;
-    files.fuse(None);
-    let mut engine = opened_as(files, alloc, plan.target_size, plan.mode)?;
-    Ok((told, found_of(&mut engine, alloc, plan.count)?))
+    Ok((told, found_behind(files, alloc, plan)?))
 }
 
 /// Stops a client at its first changing call, at its second one, and so on, until it isn't stopped.
@@ -123,4 +150,44 @@ pub fn stops_of(alloc: Global, plan: Plan) -> Result<Vec<Stop>, EngineFault> {
         }
     }
     Ok(stops)
+}
+
+/// Stops a client at its first changing call, at its second one, and so on, so many times.
+pub fn first_stops(alloc: Global, plan: Plan, calls: u64) -> Result<Vec<Stop>, EngineFault> {
+    let mut stops = Vec::new(alloc);
+    for at in 0..calls {
+        stops.push(stopped_at(alloc, plan, at.saturating_add(1))?)?;
+    }
+    Ok(stops)
+}
+
+/// Whether a close was `Ok`, and which batches are found behind it.
+pub type Close = (bool, Option<Vec<u64>>);
+
+/// Closes an engine whose changing call of this number is refused, crashes its files and opens them
+/// again.
+fn closed_at(alloc: Global, plan: Plan, call: u64) -> Result<Close, EngineFault> {
+    let files = MemoryFileSystem::new(alloc);
+    let mut engine = opened_as(files, alloc, plan.target_size, plan.mode)?;
+    let _ = told_of(&mut engine, alloc, plan.count);
+    engine.set_fuse(Some(call));
+    let (files, is_closed) = match engine.close() {
+        Ok(files) => (files, true),
+        Err(refused) => (refused.files, false),
+    };
+    Ok((is_closed, found_behind(files, alloc, plan)?))
+}
+
+/// Refuses a close at its first changing call, at its second one, and so on, until it isn't refused.
+pub fn closes_of(alloc: Global, plan: Plan) -> Result<Vec<Close>, EngineFault> {
+    let mut closes = Vec::new(alloc);
+    for call in 1..1000u64 {
+        let close = closed_at(alloc, plan, call)?;
+        let is_last = close.0;
+        closes.push(close)?;
+        if is_last {
+            break;
+        }
+    }
+    Ok(closes)
 }

@@ -3,7 +3,7 @@
 ghost use Rattle.std.specs.Prelude.{◌≡◌, ◌⊎◌, ◌+◌, ◌-◌, ◌<◌, ◌≤◌, ◌^◌, ◌++◌, min, max, ℕ, List, [], length, take, IfOk, OnOk, OnErr, IsErrOf, IsTrue};
 ghost use Rattle.raft_log_disk.specs.declared.fault.IoFault.TheVariants.{NotFound, NoSpace, Refused};
 ghost use Rattle.raft_log_disk.specs.Disk.{Disk, IsNoFile, with_file, after_sync};
-ghost use Rattle.raft_log_disk.specs.Cause.{IsTaken, NothingRefuses, RefusesNoMore, UnlessRefused};
+ghost use Rattle.raft_log_disk.specs.Cause.{IsTaken, Lacks, NothingRefuses, RefusesNoMore, UnlessRefused, lacked};
 ghost use Rattle.raft_log_disk.specs.Format.{IsSpellable, header_len, spelled_header};
 ghost use Rattle.raft_log_file.specs.Writer.{IsWriter, IsReady, IsAppended, IsCut, IsOpened, IsClosed, IsCounted};
 
@@ -56,6 +56,7 @@ impl LogFileWriter {
         ensures grown { end ≤ self.new.capacity }
         ensures later { RefusesNoMore (F.is_bounded files.old) (F.is_bounded files.new) (F.meter files.old) (F.meter files.new) }
         ensures counts { ((F.meter files.new).refusals ≡ (F.meter files.old).refusals) ⊎ ((F.meter files.new).refusals ≡ min ((F.meter files.old).refusals + 1) (2 ^ 64 - 1)) }
+        ensures lacks { (F.meter files.new).lacks ≡ (F.meter files.old).lacks }
     {
         if end <= self.capacity {
             return;
@@ -85,6 +86,7 @@ impl LogFileWriter {
         ensures err { OnErr result (self.new.offset ≡ self.old.offset) }
         ensures unwritten { UnlessRefused result (IsReady self.old (F.disk files.old) (F.disk files.new) (min (self.old.offset + length bytes.now) (2 ^ 64 - 1)) target_size) }
         ensures counted { IsCounted (F.meter files.old) (F.meter files.new) result }
+        ensures lacks { (F.meter files.new).lacks ≡ lacked result (F.meter files.old).lacks }
         ensures not_found { IsErrOf result NotFound → IsNoFile (F.disk files.old) self.old.fd.0 }
         ensures later { RefusesNoMore (F.is_bounded files.old) (F.is_bounded files.new) (F.meter files.old) (F.meter files.new) }
         ensures taken { NothingRefuses (F.is_bounded files.old) (F.meter files.old) → IsTaken (IsNoFile (F.disk files.old) self.old.fd.0) (2 ^ 64 ≤ self.old.offset + length bytes.now) result }
@@ -103,6 +105,7 @@ impl LogFileWriter {
         ensures ok { OnOk result (F.disk files.new ≡ with_file (F.disk files.old) self.now.fd.0 (after_sync ((F.disk files.old).file self.now.fd.0))) }
         ensures err { OnErr result (F.disk files.new ≡ F.disk files.old) }
         ensures counted { IsCounted (F.meter files.old) (F.meter files.new) result }
+        ensures space { IsErrOf result NoSpace → ⊥ }
         ensures not_found { IsErrOf result NotFound → IsNoFile (F.disk files.old) self.now.fd.0 }
         ensures later { RefusesNoMore (F.is_bounded files.old) (F.is_bounded files.new) (F.meter files.old) (F.meter files.new) }
         ensures taken { NothingRefuses (F.is_bounded files.old) (F.meter files.old) → IsTaken (IsNoFile (F.disk files.old) self.now.fd.0) ⊥ result }
@@ -164,6 +167,7 @@ pub fn build_file_writer<F: FileSystem>(
     ensures writer { IfOk result (λ w. IsWriter w (F.disk files.new)) }
     ensures file { IfOk result (λ w. w.fd ≡ fd) }
     ensures counted { IsCounted (F.meter files.old) (F.meter files.new) result }
+    ensures lacks { IsErrOf result NoSpace → Lacks 1 (F.meter files.old) (F.meter files.new) }
     ensures not_found { IsErrOf result NotFound → IsNoFile (F.disk files.old) fd.0 }
     ensures later { RefusesNoMore (F.is_bounded files.old) (F.is_bounded files.new) (F.meter files.old) (F.meter files.new) }
     ensures taken { NothingRefuses (F.is_bounded files.old) (F.meter files.old) → IsTaken (IsNoFile (F.disk files.old) fd.0) ⊥ result }

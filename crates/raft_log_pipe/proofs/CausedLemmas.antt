@@ -9,9 +9,10 @@ use Rattle.std.specs.declared.alloc.Global.{Global}
 use Rattle.raft_log_records.specs.declared.file_id.FileId.{FileId}
 use Rattle.raft_log_disk.specs.declared.fault.IoFault.{IoFault}
 use Rattle.raft_log_disk.specs.declared.fault.IoFault.TheVariants as fault
-use Rattle.raft_log_disk.specs.Cause.{HasCause, IsTaken, Meter, Rises}
+use Rattle.raft_log_disk.specs.Cause.{HasCause, IsTaken, Lacks, Meter, Rises}
 use Rattle.raft_log_disk.specs.Text.{Text}
 use Rattle.raft_log_disk.specs.Disk.{Disk, HasDirectory}
+use Rattle.raft_log_disk.proofs.RefusalLemmas.{lacks_then}
 use Rattle.raft_log_files.specs.FileName.{log_file_name}
 use Rattle.raft_log_files.specs.Error.{io_error, second_append_error}
 use Rattle.raft_log_files.specs.declared.error.Error.{Error}
@@ -54,10 +55,10 @@ caused_io S r c n a fault.NoSpace why = why
 caused_io S r c n a fault.NotFound why = why
 
 -- and of a second append
-pub caused_second : (S r c n a : Type 0) (x : IoFault) → (r → c) → IsTaken {T = S} a r (Err x) → IsCaused r c n a (second_append_error x)
+pub caused_second : (S r c n a : Type 0) (x : IoFault) → (IsErrOf {T = S} (Err x) fault.NoSpace → c) → IsTaken {T = S} a r (Err x) → IsCaused r c n a (second_append_error x)
 caused_second S r c n a fault.Memory f why = tt
 caused_second S r c n a fault.Refused f why = why
-caused_second S r c n a fault.NoSpace f why = f why
+caused_second S r c n a fault.NoSpace f why = f refl
 caused_second S r c n a fault.NotFound f why = why
 
 -- a result that is an error of this cause
@@ -125,7 +126,7 @@ exit_cause S r c n a result x is why = told_cause result (io_error x) (λ e. IsC
 pub told_io : (S r c n a : Type 0) (e : Error) (x : IoFault) → e ≡ io_error x → IsTaken {T = S} a r (Err x) → IsCaused r c n a e
 told_io S r c n a e x is why = subst (λ (y : Error). IsCaused r c n a y) (sym is) (caused_io S r c n a x why)
 
-pub told_second : (S r c n a : Type 0) (e : Error) (x : IoFault) → e ≡ second_append_error x → (r → c) → IsTaken {T = S} a r (Err x) → IsCaused r c n a e
+pub told_second : (S r c n a : Type 0) (e : Error) (x : IoFault) → e ≡ second_append_error x → (IsErrOf {T = S} (Err x) fault.NoSpace → c) → IsTaken {T = S} a r (Err x) → IsCaused r c n a e
 told_second S r c n a e x is f why = subst (λ (y : Error). IsCaused r c n a y) (sym is) (caused_second S r c n a x f why)
 
 -- errors that are handed on
@@ -134,35 +135,35 @@ cause_more r c n a s d m b (Ok y) f g h k x = tt
 cause_more r c n a s d m b (Err e) f g h k x = caused_for r c n a s d m b e f g h k x
 
 -- the file that an append begins first
-pub begins_first : (full : Type 0) (old new : Meter) → full → Rises 0 old new → BeginsFiles full old new 1
-begins_first full old new is rises = record { some = omega arith; counts = inr (is, rises) }
+pub begins_first : (full : Type 0) (old new : Meter) → full → Lacks 0 old new → BeginsFiles full old new 1
+begins_first full old new is lacks = record { some = omega arith; counts = inr (is, lacks) }
 
-begins_late : (full : Type 0) (a b c : Meter) (k n : ℕ) → Rises 1 a b → Rises (n - 1) b c → 0 < n → (k ≡ 0) ⊎ (full × (k ≡ 1)) → BeginsFiles full a c (k + n)
+begins_late : (full : Type 0) (a b c : Meter) (k n : ℕ) → Lacks 1 a b → Lacks (n - 1) b c → 0 < n → (k ≡ 0) ⊎ (full × (k ≡ 1)) → BeginsFiles full a c (k + n)
 begins_late full a b c k n one more some (inl none) = record { some = omega (arith, some); counts = inl (omega (arith, one, more, some, none)) }
 begins_late full a b c k n one more some (inr (is, first)) = record { some = omega (arith, some); counts = inr (is, omega (arith, one, more, some, first)) }
 
-fewer : (old new : Meter) (n : ℕ) → Rises n old new ⊎ (Unit {0} × Rises (n - 1) old new) → Rises (n - 1) old new
+fewer : (old new : Meter) (n : ℕ) → Lacks n old new ⊎ (Unit {0} × Lacks (n - 1) old new) → Lacks (n - 1) old new
 fewer old new n (inl many) = omega (arith, many)
 fewer old new n (inr (u, one)) = one
 
 -- those that are begun behind want of space
-pub begins_behind : (full : Type 0) (a b c : Meter) (k n : ℕ) → Rises 1 a b → (k ≡ 0) ⊎ (full × (k ≡ 1)) → BeginsFiles (Unit {0}) b c n → BeginsFiles full a c (k + n)
+pub begins_behind : (full : Type 0) (a b c : Meter) (k n : ℕ) → Lacks 1 a b → (k ≡ 0) ⊎ (full × (k ≡ 1)) → BeginsFiles (Unit {0}) b c n → BeginsFiles full a c (k + n)
 begins_behind full a b c k n one first begins = begins_late full a b c k n one (fewer b c n begins.counts) begins.some first
 
 append_behind_by : {T : Type 0} (p q : SinglePipe) (d e : Disk) (a b c : Meter) (k : ℕ) (result : Result T Error) → (k ≡ 0) ⊎ (IsFull p × (k ≡ 1)) → q.active.seq ≡ p.active.seq + k → e.directories ≡ d.directories
-    → q.paths ≡ p.paths → q.queue ≡ p.queue → Rises 1 a b → IfErr result (λ x. IsSecondAppendFault q e b c x) → IfErr result (λ x. IsAppendFault p d a c x)
-append_behind_by p q d e a b c k result first seq directories paths queue one why =
-    cause_more (Rises 1 b c) (Rises 1 b c) ((n : ℕ) × BeginsFiles (Unit {0}) b c n × LacksNumber q n) ((n : ℕ) × BeginsFiles (Unit {0}) b c n × LacksPlace q e n)
-    (Rises 1 a c) (Rises 2 a c) ((n : ℕ) × BeginsFiles (IsFull p) a c n × LacksNumber p n) ((n : ℕ) × BeginsFiles (IsFull p) a c n × LacksPlace p d n) result
-    (λ more. omega (arith, one, more)) (λ more. rises_then 1 1 a b c one more)
+    → q.paths ≡ p.paths → q.queue ≡ p.queue → Rises 0 a b → Lacks 1 a b → IfErr result (λ x. IsSecondAppendFault q e b c x) → IfErr result (λ x. IsAppendFault p d a c x)
+append_behind_by p q d e a b c k result first seq directories paths queue before one why =
+    cause_more (Rises 1 b c) (Lacks 1 b c) ((n : ℕ) × BeginsFiles (Unit {0}) b c n × LacksNumber q n) ((n : ℕ) × BeginsFiles (Unit {0}) b c n × LacksPlace q e n)
+    (Rises 1 a c) (Lacks 2 a c) ((n : ℕ) × BeginsFiles (IsFull p) a c n × LacksNumber p n) ((n : ℕ) × BeginsFiles (IsFull p) a c n × LacksPlace p d n) result
+    (rises_then 0 1 a b c before) (lacks_then 1 1 a b c one)
     (λ (n, begins, lacks). (k + n, begins_behind (IsFull p) a b c k n one first begins, number_before p q k n seq lacks))
     (λ (n, begins, lacks). (k + n, begins_behind (IsFull p) a b c k n one first begins, place_before p q d e k n directories paths queue seq lacks)) why
 
 -- a second append, behind one that found no space
 pub append_behind : {T : Type 0} (p q : SinglePipe) (d e : Disk) (a b c : Meter) (result : Result T Error) → (q.active.seq ≡ p.active.seq) ⊎ (IsFull p × (q.active.seq ≡ p.active.seq + 1)) → e.directories ≡ d.directories
-    → q.paths ≡ p.paths → q.queue ≡ p.queue → Rises 1 a b → IfErr result (λ x. IsSecondAppendFault q e b c x) → IfErr result (λ x. IsAppendFault p d a c x)
-append_behind p q d e a b c result (inl same) directories paths queue one why = append_behind_by p q d e a b c 0 result (inl refl) (omega (arith, same)) directories paths queue one why
-append_behind p q d e a b c result (inr (full, next)) directories paths queue one why = append_behind_by p q d e a b c 1 result (inr (full, refl)) next directories paths queue one why
+    → q.paths ≡ p.paths → q.queue ≡ p.queue → Rises 0 a b → Lacks 1 a b → IfErr result (λ x. IsSecondAppendFault q e b c x) → IfErr result (λ x. IsAppendFault p d a c x)
+append_behind p q d e a b c result (inl same) directories paths queue before one why = append_behind_by p q d e a b c 0 result (inl refl) (omega (arith, same)) directories paths queue before one why
+append_behind p q d e a b c result (inr (full, next)) directories paths queue before one why = append_behind_by p q d e a b c 1 result (inr (full, refl)) next directories paths queue before one why
 
 -- the last file stays the same one
 pub seq_on : (p m q : SinglePipe) → (m.active ≡ p.active) ⊎ (IsFull p × (m.active.seq ≡ p.active.seq + 1)) → q.active ≡ m.active → (q.active.seq ≡ p.active.seq) ⊎ (IsFull p × (q.active.seq ≡ p.active.seq + 1))

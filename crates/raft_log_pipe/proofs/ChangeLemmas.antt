@@ -1,5 +1,5 @@
 -- What a writer makes of the last file of a pipe.
-use Rattle.std.proofs.Common.{◌≡◌, ◌≢◌, inl, inr, ℕ, ◌+◌, ◌-◌, ◌<◌, ◌≤◌, List, [], ◌∷◌, ◌++◌, length, take, refl, sym, ap, subst, ◌∙◌, arith, length-append, Option}
+use Rattle.std.proofs.Common.{◌≡◌, ◌≢◌, ◌⊎◌, inl, inr, ℕ, ◌+◌, ◌-◌, ◌<◌, ◌≤◌, List, [], ◌∷◌, ◌++◌, length, take, refl, sym, ap, subst, ◌∙◌, arith, length-append, Option}
 use Rattle.std.specs.Prelude.{Result, Ok, Err, replicate}
 use Rattle.std.specs.List.{AllByRecursion}
 use Rattle.std.proofs.lemmas.List.{length-replicate, length-take-le, map-append}
@@ -23,7 +23,7 @@ use Rattle.raft_log_pipe.specs.Begun.{Changes}
 use Rattle.raft_log_pipe.specs.Stored.{IsEnded, IsStored}
 use Rattle.raft_log_pipe.specs.Pipe.{Numbered, numbered, id_of, HoldsIn, Holds, IsPipe, IsPopulated, LeavesIn, IsLast}
 use Rattle.raft_log_pipe.proofs.StoredLemmas.{stored_cut, stored_more, stored_room, stored_synced, stored_within}
-use Rattle.raft_log_pipe.proofs.PipeLemmas.{AreApart, changes, changes_on, file_there, holds_leaves, holds_on, holds_synced, leaves_more, leaves_on, named_on, names_kept, stays}
+use Rattle.raft_log_pipe.proofs.PipeLemmas.{AreApart, changes, changes_on, file_there, holds_on, holds_synced, leaves_more, leaves_on, named_on, names_kept, stays}
 
 -- ---- cuts
 
@@ -174,10 +174,11 @@ closed_ended p d e to pipe (b, cut, synced) same =
       still = record { kept = refl; changed = refl; least = refl; greatest = refl };
     }))
 
-pub unclosed_leaves : (p : SinglePipe) (d e : Disk) (x : IoFault) → IsPipe p d → IsClosed p.writer d e (Err x) → (s u : Numbered) → Holds p d s u → LeavesIn p.queue (p.older.items ++ p.active ∷ []) e s u
-unclosed_leaves p d e x pipe closed s u h =
+-- a refused close changes none of them
+pub unclosed_holds : (p : SinglePipe) (d e : Disk) (to : ℕ) (x : IoFault) → IsPipe p d → IsClosed p.writer d e (Err x) → to ≡ p.writer.offset → (s u : Numbered) → Holds p d s u → HoldsIn p.queue p.older.items p.active to e s u
+unclosed_holds p d e to x pipe closed same s u h =
     let id = id_of p.queue p.active.seq in
-    holds_leaves p.queue p.older.items p.active p.writer.offset e s u
+    subst (λ n. HoldsIn p.queue p.older.items p.active n e s u) (sym same)
     (holds_on p.queue p.older.items p.active p.writer.offset p.writer.offset d e s u s u h h.ks h.us (here p d e pipe (closed_changes p.writer d e (Err x) closed)) (apart_of d.next p.active.handle.0 p.older.items pipe.apart)
     h.synced_are h.unsynced_are
     (subst (λ n. IsStored id p.active.format h.ks h.us p.writer.offset (e.file n)) (fd_is p d pipe) (unclosed_stored id p.active.format h.ks h.us p.writer d e x (stored_at p d s u pipe h) closed)))
@@ -229,29 +230,57 @@ put_holds p d e to text items target pipe are is a same s u h =
     (subst (λ n. IsStored id format h.ks (h.us ++ items ∷ []) n (e.file p.active.handle.0)) (ap (λ (l : List ℕ). p.writer.offset + length l) (sym is) ∙ sym same)
     (subst (λ n. IsStored id format h.ks (h.us ++ items ∷ []) (p.writer.offset + length spell) (e.file n)) (fd_is p d pipe) more))
 
--- or a part of it
+-- or a part of it: what the last file has then
+pub record IsUnput (p : SinglePipe) (d e : Disk) (items : Batch) (ks us : List Batch) : Type 0 where
+  pub change : Changes d e p.active.handle.0
+  pub apart : AreApart p.active.handle.0 p.older.items
+  pub all : List Batch
+  pub are : (all ≡ us) ⊎ (all ≡ us ++ items ∷ [])
+  pub unsynced : IsUnsynced (id_of p.queue p.active.seq) p.active.format ks all (e.file p.active.handle.0)
+
+pub unput_last : (p : SinglePipe) (d e : Disk) (text : List ℕ) (items : Batch) (target : ℕ) (x : IoFault) → IsPipe p d → AreItems items → text ≡ spell_record (signature_of p.active.format.version p.active.seq) items
+    → IsAppended p.writer d e text target (Err x) → (s u : Numbered) (h : Holds p d s u) → IsUnput p d e items h.ks h.us
+unput_last p d e text items target x pipe are is a s u h = by_writes a.writes
+  where
+    id : FileId
+    id = id_of p.queue p.active.seq
+
+    fd : ℕ
+    fd = p.writer.fd.0
+
+    between : IsStored id p.active.format h.ks h.us p.writer.offset (a.between.file fd)
+    between = ready_stored id p.active.format h.ks h.us p.writer d a.between _ target pipe.writer (stored_at p d s u pipe h) a.ready
+
+    with_last : (all : List Batch) → (all ≡ h.us) ⊎ (all ≡ h.us ++ items ∷ []) → IsUnsynced id p.active.format h.ks all (e.file fd) → IsUnput p d e items h.ks h.us
+    with_last all which unsynced = record {
+      change = here p d e pipe (appended_changes p.writer d e text target (Err x) a);
+      apart = apart_of d.next p.active.handle.0 p.older.items pipe.apart;
+      all = all;
+      are = which;
+      unsynced = subst (λ n. IsUnsynced id p.active.format h.ks all (e.file n)) (fd_is p d pipe) unsynced;
+    }
+
+    by_writes : Writes (Err x) a.between e fd p.writer.offset text → IsUnput p d e items h.ks h.us
+    by_writes (inl same) = with_last h.us (inl refl) (subst (λ (y : Disk). IsUnsynced id p.active.format h.ks h.us (y.file fd)) (sym same) between.unsynced)
+    by_writes (inr refused) =
+        with_last (h.us ++ items ∷ []) (inr refl)
+        (subst (IsUnsynced id p.active.format h.ks (h.us ++ items ∷ []))
+        (ap (λ (l : List ℕ). after_write (a.between.file fd) p.writer.offset l refused.seen) (sym is) ∙ sym (file_there a.between e fd _ refused.files))
+        (unsynced_batches_grow id p.active.format h.ks h.us items (a.between.file fd) p.writer.offset refused.seen between.unsynced are between.place))
+
 pub unput_leaves : (p : SinglePipe) (d e : Disk) (text : List ℕ) (items : Batch) (target : ℕ) (x : IoFault) → IsPipe p d → AreItems items → text ≡ spell_record (signature_of p.active.format.version p.active.seq) items
     → IsAppended p.writer d e text target (Err x) → (s u : Numbered) → Holds p d s u → LeavesIn p.queue (p.older.items ++ p.active ∷ []) e s (u ++ (p.active.seq, items) ∷ [])
-unput_leaves p d e text items target x pipe are is a s u h = by_writes a.writes
+unput_leaves p d e text items target x pipe are is a s u h = by_all last.are
   where
-    by_writes : Writes (Err x) a.between e p.writer.fd.0 p.writer.offset text → LeavesIn p.queue (p.older.items ++ p.active ∷ []) e s (u ++ (p.active.seq, items) ∷ [])
-    by_writes (inl same) =
-        leaves_more p.queue (p.older.items ++ p.active ∷ []) e s u ((p.active.seq, items) ∷ [])
-        (subst (λ (y : Disk). LeavesIn p.queue (p.older.items ++ p.active ∷ []) y s u) (sym same)
-        (holds_leaves p.queue p.older.items p.active p.writer.offset a.between s u (ready_holds p d a.between p.writer.offset _ target pipe a.ready refl s u h)))
-    by_writes (inr refused) =
-        let id = id_of p.queue p.active.seq in
-        let format = p.active.format in
-        let fd : ℕ = p.writer.fd.0 in
-        let between = ready_stored id format h.ks h.us p.writer d a.between _ target pipe.writer (stored_at p d s u pipe h) a.ready in
-        let more : IsUnsynced id format h.ks (h.us ++ items ∷ []) (e.file fd) =
-        subst (IsUnsynced id format h.ks (h.us ++ items ∷ []))
-        (ap (λ (l : List ℕ). after_write (a.between.file fd) p.writer.offset l refused.seen) (sym is) ∙ sym (file_there a.between e fd _ refused.files))
-        (unsynced_batches_grow id format h.ks h.us items (a.between.file fd) p.writer.offset refused.seen between.unsynced are between.place) in
-        leaves_on p.queue p.older.items p.active p.writer.offset d e s u (u ++ (p.active.seq, items) ∷ []) h (h.us ++ items ∷ [])
-        (here p d e pipe (appended_changes p.writer d e text target (Err x) a)) (apart_of d.next p.active.handle.0 p.older.items pipe.apart)
-        (numbered_push p.active.seq h.us items u h.unsynced_are)
-        (subst (λ n. IsUnsynced id format h.ks (h.us ++ items ∷ []) (e.file n)) (fd_is p d pipe) more)
+    last : IsUnput p d e items h.ks h.us
+    last = unput_last p d e text items target x pipe are is a s u h
+
+    leaves : (v : Numbered) → v ≡ numbered p.active.seq last.all → LeavesIn p.queue (p.older.items ++ p.active ∷ []) e s v
+    leaves v same = leaves_on p.queue p.older.items p.active p.writer.offset d e s u v h last.all last.change last.apart same last.unsynced
+
+    by_all : (last.all ≡ h.us) ⊎ (last.all ≡ h.us ++ items ∷ []) → LeavesIn p.queue (p.older.items ++ p.active ∷ []) e s (u ++ (p.active.seq, items) ∷ [])
+    by_all (inl none) = leaves_more p.queue (p.older.items ++ p.active ∷ []) e s u ((p.active.seq, items) ∷ []) (leaves u (h.unsynced_are ∙ ap (numbered p.active.seq) (sym none)))
+    by_all (inr more) = leaves (u ++ (p.active.seq, items) ∷ []) (numbered_push p.active.seq h.us items u h.unsynced_are ∙ ap (numbered p.active.seq) (sym more))
 
 -- ---- batches as records
 

@@ -124,6 +124,10 @@ then_holds old p new d b e finished on s u h = on (s ++ u) (finished s u h)
 pub then_leaves : (old p new : SinglePipe) (d b e : Disk) → ((s u : Numbered) → Holds old d s u → Holds p b (s ++ u) []) → ((s : Numbered) → Holds p b s [] → Leaves new e s []) → (s u : Numbered) → Holds old d s u → Leaves new e s u
 then_leaves old p new d b e finished on s u h = leaves_all new.queue (new.older.items ++ new.active ∷ []) e s u (on (s ++ u) (finished s u h))
 
+-- what is held still is left
+pub still_leaves : (old new : SinglePipe) (d e : Disk) → ((s u : Numbered) → Holds old d s u → Holds new e s u) → (s u : Numbered) → Holds old d s u → Leaves new e s u
+still_leaves old new d e still s u h = holds_leaves new.queue new.older.items new.active new.writer.offset e s u (still s u h)
+
 pub all_or : (old new : SinglePipe) (d e : Disk) → ((s u : Numbered) → Holds old d s u → Holds new e (s ++ u) []) → (s u : Numbered) → Holds old d s u → Holds new e s u ⊎ Holds new e (s ++ u) []
 all_or old new d e all s u h = inr (all s u h)
 

@@ -9,6 +9,7 @@ pub mod PurgeLemmas
 pub mod ReadLemmas
 pub mod GiveUpLemmas
 pub mod AloneLemmas
+pub mod TornLemmas
 pub mod OthersLemmas
 pub mod TakenLemmas
 pub mod LostLemmas

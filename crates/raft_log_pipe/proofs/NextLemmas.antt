@@ -119,7 +119,7 @@ pub record IsMade (d g : Disk) (id : FileId) : Type 0 where
 pub made_alone : (d e : Disk) (id : FileId) → Creates d e id → IsMade d e id
 made_alone d e id creates = record { between = e; creates = creates; change = stays e e d.next refl }
 
-made_beside : (d g : Disk) (id : FileId) (n : ℕ) → IsMade d g id → n < d.next → g.file n ≡ d.file n
+pub made_beside : (d g : Disk) (id : FileId) (n : ℕ) → IsMade d g id → n < d.next → g.file n ≡ d.file n
 made_beside d g id n made below =
     let apart : n ≢ d.next = λ e. absurd (omega (arith, below, e)) in
     file_beside made.between g d.next n made.change apart ∙ created_beside d made.between id n made.creates apart

@@ -123,30 +123,34 @@ holds_synced queue fs active offset d e s u h change apart stored =
     ∙ ap (λ (l : Numbered). h.before ++ l) (sym (map-append (λ k. (active.seq, k)) h.ks h.us)))
     refl stored
 
--- a new file goes on
-pub holds_next : (queue : LogQueue) (fs : List File) (active next : File) (offset to : ℕ) (d : Disk) (s : Numbered) → HoldsIn queue fs active offset d s [] → IsEnded offset (d.file active.handle.0) → IsNamedSo d (id_of queue next.seq) next.handle.0
-    → IsStored (id_of queue next.seq) next.format [] [] to (d.file next.handle.0) → HoldsIn queue (fs ++ active ∷ []) next to d s []
-holds_next queue fs active next offset to d s h ended named stored =
+-- the last file with those before it, once it is ended
+pub olders_next : (queue : LogQueue) (fs : List File) (active : File) (offset : ℕ) (d : Disk) (s : Numbered) → HoldsIn queue fs active offset d s [] → IsEnded offset (d.file active.handle.0) → AreOlder queue d (fs ++ active ∷ []) s
+olders_next queue fs active offset d s h ended =
     let none : h.us ≡ [] = no_more h.us (sym h.unsynced_are) in
-    record {
-      before = s;
-      ks = [];
-      us = [];
-      synced_are = sym (append-nil s);
-      unsynced_are = refl;
-      olders = subst (AreOlder queue d (fs ++ active ∷ [])) (sym h.synced_are) (olders_push queue d fs active h.before h.ks h.olders (record {
-        offset = offset;
-        named = h.named;
-        stored = inl (subst (λ (l : List Batch). IsStored (id_of queue active.seq) active.format h.ks l offset (d.file active.handle.0)) none h.stored);
-        ended = ended;
-      }));
-      named = named;
-      stored = stored;
-    }
+    subst (AreOlder queue d (fs ++ active ∷ [])) (sym h.synced_are) (olders_push queue d fs active h.before h.ks h.olders (record {
+      offset = offset;
+      named = h.named;
+      stored = inl (subst (λ (l : List Batch). IsStored (id_of queue active.seq) active.format h.ks l offset (d.file active.handle.0)) none h.stored);
+      ended = ended;
+    }))
   where
     no_more : (us : List Batch) → numbered active.seq us ≡ [] → us ≡ []
     no_more [] is = refl
     no_more (u ∷ us) is = absurd cc
+
+-- a new file goes on
+pub holds_next : (queue : LogQueue) (fs : List File) (active next : File) (offset to : ℕ) (d : Disk) (s : Numbered) → HoldsIn queue fs active offset d s [] → IsEnded offset (d.file active.handle.0) → IsNamedSo d (id_of queue next.seq) next.handle.0
+    → IsStored (id_of queue next.seq) next.format [] [] to (d.file next.handle.0) → HoldsIn queue (fs ++ active ∷ []) next to d s []
+holds_next queue fs active next offset to d s h ended named stored = record {
+  before = s;
+  ks = [];
+  us = [];
+  synced_are = sym (append-nil s);
+  unsynced_are = refl;
+  olders = olders_next queue fs active offset d s h ended;
+  named = named;
+  stored = stored;
+}
 
 -- ---- what a crash leaves
 
@@ -159,7 +163,7 @@ in_all P (y ∷ xs) x all (inr there) = in_all P xs x all.1 there
 pub image_there : (d : Disk) (image : Image) (id : FileId) (fd : ℕ) → IsNamedSo d id fd → IsImage d image → IsFileImage (d.file fd) (image fd)
 image_there d image id fd named are = in_all (λ (e : List ℕ × ℕ). IsFileImage (d.file e.1) (image e.1)) d.names (named.0, fd) are named.1
 
-genuine_there : (d : Disk) (image : Image) (id : FileId) (fd : ℕ) → IsNamedSo d id fd → IsGenuineImage d image → IsGenuine id (d.file fd) (image fd)
+pub genuine_there : (d : Disk) (image : Image) (id : FileId) (fd : ℕ) → IsNamedSo d id fd → IsGenuineImage d image → IsGenuine id (d.file fd) (image fd)
 genuine_there d image id fd named are =
     subst (λ (o : Option FileId). MatchOption o (Unit {0}) (λ x. IsGenuine x (d.file fd) (image fd))) named.2
     (in_all (λ (e : List ℕ × ℕ). MatchOption (log_file_of e.0) (Unit {0}) (λ x. IsGenuine x (d.file e.1) (image e.1))) d.names (named.0, fd) are named.1)

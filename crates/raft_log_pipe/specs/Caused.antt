@@ -4,7 +4,7 @@ use Rattle.raft_log_records.specs.declared.file_id.FileId.{FileId}
 use Rattle.raft_log_records.specs.declared.file_id.LogQueue.{LogQueue}
 use Rattle.raft_log_disk.specs.Text.{Text}
 use Rattle.raft_log_disk.specs.Disk.{Disk, HasDirectory}
-use Rattle.raft_log_disk.specs.Cause.{Meter, Rises}
+use Rattle.raft_log_disk.specs.Cause.{Lacks, Meter, Rises}
 use Rattle.raft_log_files.specs.FileName.{IsFileSeq}
 use Rattle.raft_log_files.specs.declared.error.Error.{Error}
 use Rattle.raft_log_files.specs.declared.error.Error.TheVariants.{Io, Corruption, InvalidArgument, TryAgain, Memory, Other, EntryCompacted, EntryNotFound}
@@ -62,23 +62,23 @@ IsCreationFault directories queue d old new e = IsCaused (Rises 1 old new) ⊥ �
 
 -- ---- an append
 
--- an append begins so many files: one where the last one is full, and one for each want of space that was counted
+-- an append begins so many files: one where the last one is full, and one for each write without space that was counted
 pub record BeginsFiles (full : Type 0) (old new : Meter) (n : ℕ) : Type 0 where
   pub some : 0 < n
-  pub counts : Rises n old new ⊎ (full × Rises (n - 1) old new)
+  pub counts : Lacks n old new ⊎ (full × Lacks (n - 1) old new)
 
 -- it is refused where a file that it begins has no number or no place
 abbrev pub IsPutFault : (full cramped : Type 0) → SinglePipe → Disk → Meter → Meter → Error → Type 0
 IsPutFault full cramped p d old new e =
     IsCaused (Rises 1 old new) cramped ((n : ℕ) × BeginsFiles full old new n × LacksNumber p n) ((n : ℕ) × BeginsFiles full old new n × LacksPlace p d n) e
 
--- space was wanted twice
+-- two writes found no space
 abbrev pub IsAppendFault : SinglePipe → Disk → Meter → Meter → Error → Type 0
-IsAppendFault p d old new e = IsPutFault (IsFull p) (Rises 2 old new) p d old new e
+IsAppendFault p d old new e = IsPutFault (IsFull p) (Lacks 2 old new) p d old new e
 
 -- the second append of a call begins a file anyway
 abbrev pub IsSecondAppendFault : SinglePipe → Disk → Meter → Meter → Error → Type 0
-IsSecondAppendFault p d old new e = IsPutFault (Unit {0}) (Rises 1 old new) p d old new e
+IsSecondAppendFault p d old new e = IsPutFault (Unit {0}) (Lacks 1 old new) p d old new e
 
 -- what is left to do behind it without space: `TryAgain` has its cause by then
 abbrev pub IsGivenUpFault : SinglePipe → Disk → Meter → Meter → Error → Type 0

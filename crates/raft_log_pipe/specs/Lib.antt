@@ -8,5 +8,7 @@ pub mod Found
 pub mod Purging
 pub mod Alone
 pub mod Others
+pub mod Torn
 pub mod Taken
 pub mod Caused
+pub mod Kept

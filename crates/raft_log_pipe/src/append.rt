@@ -1,15 +1,18 @@
 //! Appends to a pipe.
 
-ghost use Rattle.std.specs.Prelude.{◌≡◌, ◌⊎◌, ◌+◌, ◌-◌, ◌<◌, ◌≤◌, ◌^◌, ◌++◌, ◌∷◌, [], length, min, IfErr, IfOk, OnOk, OnErr};
+ghost use Rattle.std.specs.Prelude.{◌≡◌, ◌⊎◌, ◌+◌, ◌-◌, ◌<◌, ◌≤◌, ◌^◌, ◌++◌, ◌∷◌, [], length, min, IfErr, IfOk, IsErrOf, OnOk, OnErr};
 ghost use Rattle.raft_log_records.specs.Spelling.{AreItems, record_len};
-ghost use Rattle.raft_log_disk.specs.Cause.{IsTaken, NothingRefuses, RefusesNoMore, Rises, UnlessRefused};
+ghost use Rattle.raft_log_disk.specs.declared.fault.IoFault.TheVariants.{NoSpace};
+ghost use Rattle.raft_log_disk.specs.Cause.{IsTaken, Lacks, NothingRefuses, RefusesNoMore, Rises, UnlessRefused};
 ghost use Rattle.raft_log_file.specs.Writer.{IsWriter};
 ghost use Rattle.raft_log_pipe.specs.Alone.{IsAlone, IsNearlyAlone};
+ghost use Rattle.raft_log_pipe.specs.Kept.{KeepsSettings};
 ghost use Rattle.raft_log_pipe.specs.Others.{KeepsOthers};
 ghost use Rattle.raft_log_pipe.specs.Pipe.{IsPipe, IsPopulated, Holds, Leaves, Numbered};
 ghost use Rattle.raft_log_pipe.specs.Appending.{IsHandle, Appends, LeavesAppended, Stands};
 ghost use Rattle.raft_log_pipe.specs.Blocks.{KeepsFiles};
 ghost use Rattle.raft_log_pipe.specs.Caused.{IsAppendFault, IsCaused, IsGivenUpFault, IsSecondAppendFault, LacksPlace};
+ghost use Rattle.raft_log_pipe.specs.Torn.{TearsAtEnd};
 ghost use Rattle.raft_log_pipe.specs.Taken.{IsAppendTaken, IsBarred, IsFull, IsRotationTaken, IsTakenBy, IsTooLarge, IsUnmade, IsUnnumbered};
 
 use crate::pipe::SinglePipe;
@@ -29,6 +32,7 @@ impl SinglePipe {
         ensures pipe { IsPipe self.new (F.disk files.new) }
         ensures same { (self.new.active ≡ self.old.active) × (self.new.older ≡ self.old.older) × (self.new.queue ≡ self.old.queue) }
         ensures paths { self.new.paths ≡ self.old.paths }
+        ensures set { KeepsSettings self.old self.new }
         ensures others { KeepsOthers self.old.queue (F.disk files.old) (F.disk files.new) }
         ensures names { (F.disk files.new).names ≡ (F.disk files.old).names }
         ensures batch { (batch.new.items ≡ batch.old.items) × IsPopulated batch.new }
@@ -37,6 +41,7 @@ impl SinglePipe {
         ensures stands { IfOk result (Stands self.old (F.disk files.old) self.new batch.old.items) }
         ensures err { OnErr result ((synced : Numbered) (unsynced : Numbered) → Holds self.old (F.disk files.old) synced unsynced
             → Leaves self.new (F.disk files.new) synced (unsynced ++ (self.old.active.seq, batch.old.items) ∷ [])) }
+        ensures torn { OnErr result (TearsAtEnd self.old (F.disk files.old) self.new (F.disk files.new)) }
         ensures unwritten { UnlessRefused result ((synced : Numbered) (unsynced : Numbered) → Holds self.old (F.disk files.old) synced unsynced
             → Holds self.new (F.disk files.new) synced unsynced) }
         ensures next { (F.disk files.new).next ≡ (F.disk files.old).next }
@@ -44,6 +49,7 @@ impl SinglePipe {
         ensures taken { NothingRefuses (F.is_bounded files.old) (F.meter files.old) → IsTaken ⊥ (IsTooLarge self.old batch.old.items) result }
         ensures fits { IfOk result (λ h. h.offset + record_len batch.old.items < 2 ^ 64) }
         ensures cause { IsTaken ⊥ (Rises 1 (F.meter files.old) (F.meter files.new)) result }
+        ensures lacks { IsErrOf result NoSpace → Lacks 1 (F.meter files.old) (F.meter files.new) }
     {
         let id = FileId::new(self.queue, self.active.seq);
         let context = LogFileContext::new(id, self.active.format.version);
@@ -69,6 +75,7 @@ impl SinglePipe {
         ensures writer { IsWriter self.new.writer (F.disk files.new) }
         ensures queue { self.new.queue ≡ self.old.queue }
         ensures paths { self.new.paths ≡ self.old.paths }
+        ensures set { KeepsSettings self.old self.new }
         ensures others { KeepsOthers self.old.queue (F.disk files.old) (F.disk files.new) }
         ensures alone { OnOk result (IsAlone self.old (F.disk files.old) → IsAlone self.new (F.disk files.new)) }
         ensures nearly { OnErr result (IsAlone self.old (F.disk files.old) → IsNearlyAlone self.new (F.disk files.new)) }
@@ -76,6 +83,7 @@ impl SinglePipe {
         ensures ok { OnOk result ((synced : Numbered) (unsynced : Numbered) → Holds self.old (F.disk files.old) synced unsynced
             → Holds self.new (F.disk files.new) synced unsynced ⊎ Holds self.new (F.disk files.new) (synced ++ unsynced) []) }
         ensures err { OnErr result ((synced : Numbered) (unsynced : Numbered) → Holds self.old (F.disk files.old) synced unsynced → Leaves self.new (F.disk files.new) synced unsynced) }
+        ensures torn { OnErr result (TearsAtEnd self.old (F.disk files.old) self.new (F.disk files.new)) }
         ensures room { OnOk result (((self.new ≡ self.old) × (F.disk files.new ≡ F.disk files.old)) ⊎ (self.new.writer.offset ≤ 69)) }
         ensures later { RefusesNoMore (F.is_bounded files.old) (F.is_bounded files.new) (F.meter files.old) (F.meter files.new) }
         ensures taken { NothingRefuses (F.is_bounded files.old) (F.meter files.old) → IsTakenBy (IsFull self.old × IsUnnumbered self.old)
@@ -93,6 +101,7 @@ impl SinglePipe {
     /// Appends a batch, written as a record, and answers where the record stands. It goes to the
     /// last file, or to a new one where that has reached the target size. Where there is no space
     /// the file is rotated and the batch appended once more; then `TryAgain` tells of want of space.
+    /// After an `Err` a crash leaves at most the newest file torn.
     pub fn append<F: FileSystem>(
         &mut self,
         files: &mut F,
@@ -105,6 +114,7 @@ impl SinglePipe {
         ensures writer { IsWriter self.new.writer (F.disk files.new) }
         ensures queue { self.new.queue ≡ self.old.queue }
         ensures paths { self.new.paths ≡ self.old.paths }
+        ensures set { KeepsSettings self.old self.new }
         ensures others { KeepsOthers self.old.queue (F.disk files.old) (F.disk files.new) }
         ensures alone { OnOk result (IsAlone self.old (F.disk files.old) → IsAlone self.new (F.disk files.new)) }
         ensures nearly { OnErr result (IsAlone self.old (F.disk files.old) → IsNearlyAlone self.new (F.disk files.new)) }
@@ -114,6 +124,7 @@ impl SinglePipe {
         ensures stands { IfOk result (Stands self.old (F.disk files.old) self.new batch.old.items) }
         ensures err { OnErr result ((synced : Numbered) (unsynced : Numbered) → Holds self.old (F.disk files.old) synced unsynced
             → LeavesAppended self.new (F.disk files.new) synced unsynced batch.old.items) }
+        ensures torn { OnErr result (TearsAtEnd self.old (F.disk files.old) self.new (F.disk files.new)) }
         ensures later { RefusesNoMore (F.is_bounded files.old) (F.is_bounded files.new) (F.meter files.old) (F.meter files.new) }
         ensures taken { NothingRefuses (F.is_bounded files.old) (F.meter files.old) → IsAppendTaken self.old (F.disk files.old) batch.old.items result }
         ensures fits { IfOk result (λ h. h.offset + record_len batch.old.items < 2 ^ 64) }
@@ -141,6 +152,7 @@ impl SinglePipe {
         ensures writer { IsWriter self.new.writer (F.disk files.new) }
         ensures queue { self.new.queue ≡ self.old.queue }
         ensures paths { self.new.paths ≡ self.old.paths }
+        ensures set { KeepsSettings self.old self.new }
         ensures others { KeepsOthers self.old.queue (F.disk files.old) (F.disk files.new) }
         ensures alone { OnOk result (IsAlone self.old (F.disk files.old) → IsAlone self.new (F.disk files.new)) }
         ensures nearly { OnErr result (IsAlone self.old (F.disk files.old) → IsNearlyAlone self.new (F.disk files.new)) }
@@ -150,6 +162,7 @@ impl SinglePipe {
         ensures stands { IfOk result (Stands self.old (F.disk files.old) self.new batch.old.items) }
         ensures err { OnErr result ((synced : Numbered) (unsynced : Numbered) → Holds self.old (F.disk files.old) synced unsynced
             → LeavesAppended self.new (F.disk files.new) synced unsynced batch.old.items) }
+        ensures torn { OnErr result (TearsAtEnd self.old (F.disk files.old) self.new (F.disk files.new)) }
         ensures later { RefusesNoMore (F.is_bounded files.old) (F.is_bounded files.new) (F.meter files.old) (F.meter files.new) }
         ensures taken { NothingRefuses (F.is_bounded files.old) (F.meter files.old) → IsRotationTaken self.old (F.disk files.old) result }
         ensures fits { IfOk result (λ h. h.offset + record_len batch.old.items < 2 ^ 64) }
@@ -174,9 +187,11 @@ impl SinglePipe {
         ensures writer { IsWriter self.new.writer (F.disk files.new) }
         ensures queue { self.new.queue ≡ self.old.queue }
         ensures paths { self.new.paths ≡ self.old.paths }
+        ensures set { KeepsSettings self.old self.new }
         ensures others { KeepsOthers self.old.queue (F.disk files.old) (F.disk files.new) }
         ensures nearly { IsAlone self.old (F.disk files.old) → IsNearlyAlone self.new (F.disk files.new) }
         ensures leaves { (synced : Numbered) (unsynced : Numbered) → Holds self.old (F.disk files.old) synced unsynced → Leaves self.new (F.disk files.new) synced unsynced }
+        ensures torn { TearsAtEnd self.old (F.disk files.old) self.new (F.disk files.new) }
         ensures later { RefusesNoMore (F.is_bounded files.old) (F.is_bounded files.new) (F.meter files.old) (F.meter files.new) }
         ensures cause { IsGivenUpFault self.old (F.disk files.old) (F.meter files.old) (F.meter files.new) result }
     {

@@ -1,6 +1,7 @@
 //! Files of a pipe, and where a new one goes.
 
-ghost use Rattle.std.specs.Prelude.{◌≡◌, ◌<◌, ◌+◌, ◌-◌, ◌^◌, length, map, string_bytes, IfOk, IfSome};
+ghost use Rattle.std.specs.Prelude.{◌≡◌, ◌<◌, ◌+◌, ◌-◌, ◌^◌, length, map, string_bytes, IfOk, IfSome, IsErrOf};
+ghost use Rattle.raft_log_disk.specs.declared.fault.IoFault.TheVariants.{NoSpace};
 ghost use Rattle.raft_log_disk.specs.Cause.{IsTaken, NothingRefuses, RefusesNoMore, Rises};
 ghost use Rattle.raft_log_disk.specs.Disk.{HasDirectory, IsNoNewFile};
 ghost use Rattle.raft_log_files.specs.FileName.{IsFileSeq};
@@ -91,6 +92,7 @@ pub(crate) fn new_file<F: FileSystem>(
     ensures taken { NothingRefuses (F.is_bounded files.old) (F.meter files.old) → IsTaken (HasDirectory (F.disk files.old).directories (main_path paths.now id) → ⊥)
         (IsNoNewFile (F.disk files.old) (main_path paths.now id)) result }
     ensures cause { IsTaken (LacksDirectory (F.disk files.old) (map string_bytes paths.now) id) (Rises 1 (F.meter files.old) (F.meter files.new)) result }
+    ensures space { IsErrOf result NoSpace → ⊥ }
 {
     let path_id = find_available_dir(files, paths, target_size);
     let path = id.build_file_path(alloc, paths[path_id].as_str())?;

@@ -11,5 +11,5 @@ mod reading;
 mod rotate;
 
 pub use file::{File, Paths};
-pub use laws::pipes_leave_a_front;
+pub use laws::{pipes_are_torn_at_end, pipes_leave_a_front};
 pub use pipe::SinglePipe;

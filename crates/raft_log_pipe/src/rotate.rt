@@ -1,16 +1,20 @@
 //! Rotation: the last file is cut and synced, and a new one goes on.
 
-ghost use Rattle.std.specs.Prelude.{◌≡◌, ◌+◌, ◌-◌, ◌<◌, ◌≤◌, ◌++◌, ◌∷◌, [], IfErr, IfOk, OnOk, OnErr};
-ghost use Rattle.raft_log_disk.specs.Cause.{IsTaken, NothingRefuses, RefusesNoMore, Rises};
-ghost use Rattle.raft_log_disk.specs.Disk.{IsNoFile};
+ghost use Rattle.std.specs.Prelude.{◌≡◌, ◌+◌, ◌-◌, ◌<◌, ◌≤◌, ◌++◌, ◌∷◌, [], IfErr, IfOk, IsErrOf, OnOk, OnErr};
+ghost use Rattle.raft_log_disk.specs.declared.fault.IoFault.TheVariants.{NoSpace};
+ghost use Rattle.raft_log_disk.specs.Cause.{IsTaken, Lacks, NothingRefuses, RefusesNoMore, Rises};
+ghost use Rattle.raft_log_disk.specs.Disk.{IsNoFile, no_bytes};
 ghost use Rattle.raft_log_file.specs.Writer.{IsWriter};
 ghost use Rattle.raft_log_files.specs.FileName.{IsFileSeq};
+ghost use Rattle.raft_log_pipe.specs.Kept.{KeepsSettings};
 ghost use Rattle.raft_log_pipe.specs.Others.{KeepsOthers};
 ghost use Rattle.raft_log_pipe.specs.Pipe.{IsPipe, IsPlain, Holds, Leaves, Numbered};
 ghost use Rattle.raft_log_pipe.specs.Alone.{IsAlone, IsNearlyAlone};
 ghost use Rattle.raft_log_pipe.specs.Begun.{IsBegun};
 ghost use Rattle.raft_log_pipe.specs.Caused.{IsCaused, IsRefusalOrMemory, IsRotationFault, LacksPlace};
 ghost use Rattle.raft_log_pipe.specs.Stored.{IsEnded};
+ghost use Rattle.raft_log_records.specs.declared.file_id.FileId.{FileId};
+ghost use Rattle.raft_log_pipe.specs.Torn.{IsTornAtEnd, IsUnaligned, TearsAtEnd};
 ghost use Rattle.raft_log_pipe.specs.Taken.{IsBarred, IsOkOrMemory, IsRotationTaken, IsTakenBy, IsUnmade, IsUnnumbered};
 
 use crate::file::{File, new_file};
@@ -28,9 +32,11 @@ pub(crate) fn begin_file<F: FileSystem>(
 ) -> Result<LogFileWriter, IoFault>
     requires { IsPlain file.format }
     ensures begun { IsBegun (F.disk files.old) (F.disk files.new) file result }
+    ensures plain { OnErr result ((F.disk files.old).file file.handle.0 ≡ no_bytes → (id : FileId) → IsUnaligned id ((F.disk files.new).file file.handle.0)) }
     ensures later { RefusesNoMore (F.is_bounded files.old) (F.is_bounded files.new) (F.meter files.old) (F.meter files.new) }
     ensures taken { NothingRefuses (F.is_bounded files.old) (F.meter files.old) → IsTaken (IsNoFile (F.disk files.old) file.handle.0) ⊥ result }
     ensures cause { IsTaken (IsNoFile (F.disk files.old) file.handle.0) (Rises 1 (F.meter files.old) (F.meter files.new)) result }
+    ensures lacks { IsErrOf result NoSpace → Lacks 1 (F.meter files.old) (F.meter files.new) }
 {
     let writer = match build_file_writer(files, alloc, file.handle, file.format, true) {
         Ok(writer) => writer,
@@ -43,17 +49,19 @@ pub(crate) fn begin_file<F: FileSystem>(
 }
 
 impl SinglePipe {
-    /// Cuts and syncs the last file, so that all that was appended is on the disk.
+    /// Cuts and syncs the last file, so that all that was appended is on the disk. After an `Err` each
+    /// batch is as it was.
     pub fn close<F: FileSystem>(&mut self, files: &mut F) -> Result<(), Error>
         requires { IsPipe self.old (F.disk files.old) }
         ensures pipe { IsPipe self.new (F.disk files.new) }
         ensures same { (self.new.active ≡ self.old.active) × (self.new.older ≡ self.old.older) × (self.new.queue ≡ self.old.queue) }
         ensures paths { self.new.paths ≡ self.old.paths }
+        ensures set { KeepsSettings self.old self.new }
         ensures others { KeepsOthers self.old.queue (F.disk files.old) (F.disk files.new) }
         ensures names { (F.disk files.new).names ≡ (F.disk files.old).names }
         ensures ok { OnOk result ((synced : Numbered) (unsynced : Numbered) → Holds self.old (F.disk files.old) synced unsynced → Holds self.new (F.disk files.new) (synced ++ unsynced) []) }
         ensures ended { OnOk result (IsEnded self.new.writer.offset ((F.disk files.new).file self.new.active.handle.0)) }
-        ensures err { OnErr result ((synced : Numbered) (unsynced : Numbered) → Holds self.old (F.disk files.old) synced unsynced → Leaves self.new (F.disk files.new) synced unsynced) }
+        ensures err { OnErr result ((synced : Numbered) (unsynced : Numbered) → Holds self.old (F.disk files.old) synced unsynced → Holds self.new (F.disk files.new) synced unsynced) }
         ensures next { (F.disk files.new).next ≡ (F.disk files.old).next }
         ensures later { RefusesNoMore (F.is_bounded files.old) (F.is_bounded files.new) (F.meter files.old) (F.meter files.new) }
         ensures taken { NothingRefuses (F.is_bounded files.old) (F.meter files.old) → IsOkOrMemory result }
@@ -70,11 +78,12 @@ impl SinglePipe {
         ensures number { OnOk result (IsFileSeq (self.old.active.seq + 1)) }
         ensures same { (self.new.active ≡ self.old.active) × (self.new.older ≡ self.old.older) × (self.new.queue ≡ self.old.queue) }
         ensures paths { self.new.paths ≡ self.old.paths }
+        ensures set { KeepsSettings self.old self.new }
         ensures others { KeepsOthers self.old.queue (F.disk files.old) (F.disk files.new) }
         ensures names { (F.disk files.new).names ≡ (F.disk files.old).names }
         ensures ok { OnOk result ((synced : Numbered) (unsynced : Numbered) → Holds self.old (F.disk files.old) synced unsynced → Holds self.new (F.disk files.new) (synced ++ unsynced) []) }
         ensures ended { OnOk result (IsEnded self.new.writer.offset ((F.disk files.new).file self.new.active.handle.0)) }
-        ensures err { OnErr result ((synced : Numbered) (unsynced : Numbered) → Holds self.old (F.disk files.old) synced unsynced → Leaves self.new (F.disk files.new) synced unsynced) }
+        ensures err { OnErr result ((synced : Numbered) (unsynced : Numbered) → Holds self.old (F.disk files.old) synced unsynced → Holds self.new (F.disk files.new) synced unsynced) }
         ensures next { (F.disk files.new).next ≡ (F.disk files.old).next }
         ensures later { RefusesNoMore (F.is_bounded files.old) (F.is_bounded files.new) (F.meter files.old) (F.meter files.new) }
         ensures taken { NothingRefuses (F.is_bounded files.old) (F.meter files.old) → IsTakenBy (IsUnnumbered self.old) ⊥ ⊥ result }
@@ -96,15 +105,18 @@ impl SinglePipe {
         ensures next { OnOk result ((self.new.active.seq ≡ self.old.active.seq + 1) × (self.new.older.items ≡ self.old.older.items ++ self.old.active ∷ [])) }
         ensures queue { self.new.queue ≡ self.old.queue }
         ensures paths { self.new.paths ≡ self.old.paths }
+        ensures set { KeepsSettings self.old self.new }
         ensures others { KeepsOthers self.old.queue (F.disk files.old) (F.disk files.new) }
         ensures alone { OnOk result (IsAlone self.old (F.disk files.old) → IsAlone self.new (F.disk files.new)) }
         ensures nearly { OnErr result (IsAlone self.old (F.disk files.old) → IsNearlyAlone self.new (F.disk files.new)) }
         ensures ok { OnOk result ((synced : Numbered) → Holds self.old (F.disk files.old) synced [] → Holds self.new (F.disk files.new) synced []) }
         ensures err { OnErr result ((synced : Numbered) → Holds self.old (F.disk files.old) synced [] → Leaves self.new (F.disk files.new) synced []) }
+        ensures torn { OnErr result (IsAlone self.old (F.disk files.old) → (synced : Numbered) → Holds self.old (F.disk files.old) synced [] → IsTornAtEnd self.new (F.disk files.new)) }
         ensures begun { OnOk result (self.new.writer.offset ≤ 69) }
         ensures later { RefusesNoMore (F.is_bounded files.old) (F.is_bounded files.new) (F.meter files.old) (F.meter files.new) }
         ensures taken { NothingRefuses (F.is_bounded files.old) (F.meter files.old) → IsTaken (IsUnmade self.old (F.disk files.old)) (IsBarred self.old (F.disk files.old)) result }
         ensures cause { IsTaken (LacksPlace self.old (F.disk files.old) 1) (Rises 1 (F.meter files.old) (F.meter files.new)) result }
+        ensures lacks { IsErrOf result NoSpace → Lacks 1 (F.meter files.old) (F.meter files.new) }
     {
         let id = FileId::new(self.queue, self.active.seq + 1);
         let format = self.default_format;
@@ -117,7 +129,8 @@ impl SinglePipe {
         Ok(())
     }
 
-    /// Goes on with a new file. All that was appended is on the disk then.
+    /// Goes on with a new file. All that was appended is on the disk then. None is begun where closing
+    /// the last one was refused: so a crash leaves at most the newest file torn, after an `Err` too.
     pub fn rotate<F: FileSystem>(&mut self, files: &mut F) -> Result<(), Error>
         requires pipe { IsPipe self.old (F.disk files.old) }
         ensures pipe { OnOk result (IsPipe self.new (F.disk files.new)) }
@@ -125,11 +138,13 @@ impl SinglePipe {
         ensures next { OnOk result ((self.new.active.seq ≡ self.old.active.seq + 1) × (self.new.older.items ≡ self.old.older.items ++ self.old.active ∷ [])) }
         ensures queue { self.new.queue ≡ self.old.queue }
         ensures paths { self.new.paths ≡ self.old.paths }
+        ensures set { KeepsSettings self.old self.new }
         ensures others { KeepsOthers self.old.queue (F.disk files.old) (F.disk files.new) }
         ensures alone { OnOk result (IsAlone self.old (F.disk files.old) → IsAlone self.new (F.disk files.new)) }
         ensures nearly { OnErr result (IsAlone self.old (F.disk files.old) → IsNearlyAlone self.new (F.disk files.new)) }
         ensures ok { OnOk result ((synced : Numbered) (unsynced : Numbered) → Holds self.old (F.disk files.old) synced unsynced → Holds self.new (F.disk files.new) (synced ++ unsynced) []) }
         ensures err { OnErr result ((synced : Numbered) (unsynced : Numbered) → Holds self.old (F.disk files.old) synced unsynced → Leaves self.new (F.disk files.new) synced unsynced) }
+        ensures torn { OnErr result (TearsAtEnd self.old (F.disk files.old) self.new (F.disk files.new)) }
         ensures begun { OnOk result (self.new.writer.offset ≤ 69) }
         ensures later { RefusesNoMore (F.is_bounded files.old) (F.is_bounded files.new) (F.meter files.old) (F.meter files.new) }
         ensures taken { NothingRefuses (F.is_bounded files.old) (F.meter files.old) → IsRotationTaken self.old (F.disk files.old) result }

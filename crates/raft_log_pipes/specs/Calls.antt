@@ -14,6 +14,7 @@ use Rattle.raft_log_pipe.specs.Alone.{IsAlone, IsNearlyAlone}
 use Rattle.raft_log_pipe.specs.Appending.{Appends, LeavesAppended, Stands}
 use Rattle.raft_log_pipe.specs.Blocks.{AreOfBlock, AreOfFile, IsBlockFault, IsOutOfSpan, KeepsFiles}
 use Rattle.raft_log_pipe.specs.Pipe.{Holds, IsPipe, Leaves, Numbered, first_of}
+use Rattle.raft_log_pipe.specs.Torn.{TearsAtEnd}
 use Rattle.raft_log_pipe.specs.Purging.{AreGone, HoldsRest, KeepsFrom}
 
 -- the bytes of a block of this pipe, or why there are none
@@ -34,6 +35,7 @@ pub record IsAppendOf (old : SinglePipe) (d : Disk) (new : SinglePipe) (e : Disk
   pub stands : IfOk result (Stands old d new items)
   pub fits : IfOk result (λ h. h.offset + record_len items < 2 ^ 64)
   pub err : OnErr result ((synced unsynced : Numbered) → Holds old d synced unsynced → LeavesAppended new e synced unsynced items)
+  pub torn : OnErr result (TearsAtEnd old d new e)
 
 -- all that was appended is on the disk, or nothing changed
 pub record IsSyncOf (old : SinglePipe) (d : Disk) (new : SinglePipe) (e : Disk) (result : Result (Unit {0}) Error) : Type 0 where
@@ -44,14 +46,14 @@ pub record IsSyncOf (old : SinglePipe) (d : Disk) (new : SinglePipe) (e : Disk) 
   pub ok : OnOk result ((synced unsynced : Numbered) → Holds old d synced unsynced → Holds new e (synced ++ unsynced) [])
   pub err : OnErr result ((synced unsynced : Numbered) → Holds old d synced unsynced → Holds new e synced unsynced)
 
--- the last file was cut and synced, or a crash leaves what it would have left before
+-- the last file was cut and synced, or each batch stays as it was
 pub record IsCloseOf (old : SinglePipe) (d : Disk) (new : SinglePipe) (e : Disk) (result : Result (Unit {0}) Error) : Type 0 where
   pub pipe : IsPipe new e
   pub same : (new.active ≡ old.active) × (new.older ≡ old.older)
   pub paths : new.paths ≡ old.paths
   pub names : e.names ≡ d.names
   pub ok : OnOk result ((synced unsynced : Numbered) → Holds old d synced unsynced → Holds new e (synced ++ unsynced) [])
-  pub err : OnErr result ((synced unsynced : Numbered) → Holds old d synced unsynced → Leaves new e synced unsynced)
+  pub err : OnErr result ((synced unsynced : Numbered) → Holds old d synced unsynced → Holds new e synced unsynced)
 
 -- a new file goes on, or a crash leaves what it would have left before
 pub record IsRotationOf (old : SinglePipe) (d : Disk) (new : SinglePipe) (e : Disk) (result : Result (Unit {0}) Error) : Type 0 where
@@ -62,6 +64,7 @@ pub record IsRotationOf (old : SinglePipe) (d : Disk) (new : SinglePipe) (e : Di
   pub nearly : OnErr result (IsAlone old d → IsNearlyAlone new e)
   pub ok : OnOk result ((synced unsynced : Numbered) → Holds old d synced unsynced → Holds new e (synced ++ unsynced) [])
   pub err : OnErr result ((synced unsynced : Numbered) → Holds old d synced unsynced → Leaves new e synced unsynced)
+  pub torn : OnErr result (TearsAtEnd old d new e)
 
 -- files before a number went, the first ones first, and the batches of the others stay
 pub record IsPurgeOf (old : SinglePipe) (d : Disk) (new : SinglePipe) (e : Disk) (seq : ℕ) (result : Result ℕ Error) : Type 0 where

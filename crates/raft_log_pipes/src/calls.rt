@@ -12,6 +12,7 @@ ghost use Rattle.raft_log_pipe.specs.Others.{KeepsOthers};
 ghost use Rattle.raft_log_pipe.specs.Pipe.{IsPipe, IsPopulated};
 ghost use Rattle.raft_log_pipe.specs.Taken.{IsAppendTaken, IsOkOrMemory, IsPurgeTaken, IsRotationTaken};
 ghost use Rattle.raft_log_pipes.specs.Calls.{IsAppendOf, IsCloseOf, IsPurgeOf, IsRotationOf, IsSyncOf};
+ghost use Rattle.raft_log_pipes.specs.Kept.{KeepSettings};
 ghost use Rattle.raft_log_pipes.specs.Pipes.{ArePipes, IsAsBefore, other_queue, pipe_of};
 
 use crate::pipes::DualPipes;
@@ -31,6 +32,7 @@ impl DualPipes {
         requires populated { IsPopulated batch.old }
         requires items { AreItems batch.old.items }
         ensures call { IsAppendOf (pipe_of self.old queue) (F.disk files.old) (pipe_of self.new queue) (F.disk files.new) batch.old.items result }
+        ensures set { KeepSettings self.old self.new }
         ensures batch { batch.new.items ≡ batch.old.items }
         ensures both { ArePipes self.old (F.disk files.old) → OnOk result (ArePipes self.new (F.disk files.new)) }
         ensures others { KeepsOthers queue (F.disk files.old) (F.disk files.new) }
@@ -50,6 +52,7 @@ impl DualPipes {
     pub fn sync<F: FileSystem>(&mut self, files: &mut F, queue: LogQueue) -> Result<(), Error>
         requires pipe { IsPipe (pipe_of self.old queue) (F.disk files.old) }
         ensures call { IsSyncOf (pipe_of self.old queue) (F.disk files.old) (pipe_of self.new queue) (F.disk files.new) result }
+        ensures set { KeepSettings self.old self.new }
         ensures both { ArePipes self.old (F.disk files.old) → ArePipes self.new (F.disk files.new) }
         ensures others { KeepsOthers queue (F.disk files.old) (F.disk files.new) }
         ensures other { IsAsBefore (pipe_of self.old (other_queue queue)) (F.disk files.old) (pipe_of self.new (other_queue queue)) (F.disk files.new) }
@@ -68,6 +71,7 @@ impl DualPipes {
     pub fn rotate<F: FileSystem>(&mut self, files: &mut F, queue: LogQueue) -> Result<(), Error>
         requires pipe { IsPipe (pipe_of self.old queue) (F.disk files.old) }
         ensures call { IsRotationOf (pipe_of self.old queue) (F.disk files.old) (pipe_of self.new queue) (F.disk files.new) result }
+        ensures set { KeepSettings self.old self.new }
         ensures both { ArePipes self.old (F.disk files.old) → OnOk result (ArePipes self.new (F.disk files.new)) }
         ensures others { KeepsOthers queue (F.disk files.old) (F.disk files.new) }
         ensures other { IsAsBefore (pipe_of self.old (other_queue queue)) (F.disk files.old) (pipe_of self.new (other_queue queue)) (F.disk files.new) }
@@ -112,6 +116,7 @@ impl DualPipes {
     pub fn close<F: FileSystem>(&mut self, files: &mut F, queue: LogQueue) -> Result<(), Error>
         requires pipe { IsPipe (pipe_of self.old queue) (F.disk files.old) }
         ensures call { IsCloseOf (pipe_of self.old queue) (F.disk files.old) (pipe_of self.new queue) (F.disk files.new) result }
+        ensures set { KeepSettings self.old self.new }
         ensures both { ArePipes self.old (F.disk files.old) → ArePipes self.new (F.disk files.new) }
         ensures others { KeepsOthers queue (F.disk files.old) (F.disk files.new) }
         ensures other { IsAsBefore (pipe_of self.old (other_queue queue)) (F.disk files.old) (pipe_of self.new (other_queue queue)) (F.disk files.new) }

@@ -1,5 +1,5 @@
--- Whatever a crash leaves of a pipe, only the last of its files is torn.
-use Rattle.std.proofs.Common.{◌≡◌, ◌⊎◌, inl, inr, ⊎_elim, ℕ, suc, ◌<◌, true, false, List, [], ◌∷◌, ◌++◌, length, drop, Option, Some, None, Result, Ok, Err, refl, sym, ap, subst, ◌∙◌, append_assoc, arith, length-append}
+-- Of a pipe of which a crash leaves at most the newest file torn an opening in tail mode refuses nothing.
+use Rattle.std.proofs.Common.{◌≡◌, ◌⊎◌, inl, inr, ⊎_elim, ℕ, suc, ◌<◌, true, false, List, [], ◌∷◌, ◌++◌, length, Option, Some, None, Result, Ok, Err, refl, sym, ap, subst, ◌∙◌, arith, length-append}
 use Rattle.std.specs.Prelude.{MatchResult, ◌==◌}
 use Rattle.std.proofs.lemmas.List.{append-nil, take_all}
 use Rattle.std.proofs.lemmas.Bool.{false≢true}
@@ -12,29 +12,31 @@ use Rattle.raft_log_records.specs.Signature.{signature_of}
 use Rattle.raft_log_disk.specs.declared.format.HeaderFault.{HeaderFault}
 use Rattle.raft_log_disk.specs.declared.format.LogFileFormat.{LogFileFormat}
 use Rattle.raft_log_disk.specs.Disk.{Disk, FileState, IsIn, IsNamed, are_named}
-use Rattle.raft_log_disk.specs.Format.{header_at, spelled_header}
+use Rattle.raft_log_disk.specs.Chance.{IsGenuine}
+use Rattle.raft_log_disk.specs.Format.{header_at}
 use Rattle.raft_log_disk.specs.Image.{Image, IsFileImage}
 use Rattle.raft_log_disk.specs.Text.{Text}
 use Rattle.raft_log_disk.proofs.DiskLemmas.{still_is_left}
 use Rattle.raft_log_files.specs.declared.error.CorruptionFault.{CorruptionFault}
 use Rattle.raft_log_files.specs.declared.error.CorruptionFault.TheVariants.{Header}
 use Rattle.raft_log_files.specs.declared.recovery.RecoveryMode.TheVariants.{TolerateTailCorruption}
-use Rattle.raft_log_file.specs.Laws.{AreBatches, Batch, ReadsFront, file_text, spelled_batches}
+use Rattle.raft_log_file.specs.Laws.{AreBatches, Batch, ReadsFront, file_text}
 use Rattle.raft_log_file.specs.Reading.{Reading, file_reading, read_from, read_or}
-use Rattle.raft_log_file.specs.Unsynced.{IsUnsynced}
-use Rattle.raft_log_file.proofs.LawLemmas.{header_read, written_batches_are_read}
-use Rattle.raft_log_file.proofs.UnsyncedLemmas.{each_byte, image_front}
+use Rattle.raft_log_file.proofs.LawLemmas.{written_batches_are_read}
+use Rattle.raft_log_file.proofs.UnsyncedLemmas.{each_byte}
 use Rattle.raft_log_file.proofs.WalkLemmas.{from_end}
 use Rattle.raft_log_pipe.specs.declared.file.File.{File}
 use Rattle.raft_log_pipe.specs.declared.pipe.SinglePipe.{SinglePipe}
-use Rattle.raft_log_pipe.specs.Alone.{AreLast, IsAlone, Names, directories_of_pipe}
-use Rattle.raft_log_pipe.specs.Blocks.{files_of}
-use Rattle.raft_log_pipe.specs.Pipe.{AreOlder, Holds, IsOlder, Numbered, id_of}
+use Rattle.raft_log_pipe.specs.Alone.{AreLast, Names, StandsAt, directories_of_pipe}
+use Rattle.raft_log_pipe.specs.Pipe.{AreOlder, IsOlder, Numbered, id_of}
 use Rattle.raft_log_pipe.specs.Stored.{IsEnded, IsStored}
-use Rattle.raft_log_pipe.proofs.PipeLemmas.{image_there}
+use Rattle.raft_log_pipe.specs.Torn.{IsTornAtEnd, IsUnaligned}
+use Rattle.raft_log_pipe.proofs.AloneLemmas.{in_second, stands_named}
+use Rattle.raft_log_pipe.proofs.PipeLemmas.{genuine_there, image_there, in_all}
+use Rattle.raft_log_pipe.proofs.TornLemmas.{unsynced_plain}
 use Rattle.raft_log_recovery.specs.declared.scan.FileKind.TheVariants.{Log}
 use Rattle.raft_log_recovery.specs.declared.scan.FileName.{FileName}
-use Rattle.raft_log_recovery.specs.Crashed.{HasHole, IsCrashed, TornTailsAreOpened}
+use Rattle.raft_log_recovery.specs.Crashed.{HasLastingHole, IsCrashed, TornTailsAreOpened}
 use Rattle.raft_log_recovery.specs.Opening.{AnyAligned}
 use Rattle.raft_log_recovery.specs.Queue.{AnyRefused, AreOpen, IsFileOf}
 use Rattle.raft_log_recovery.specs.Repair.{fault_in, format_in, record_fault}
@@ -63,18 +65,15 @@ ended_sound id format ks offset f bytes stored ended image =
     ∙ no_fault id (text ++ []) (file_reading id (text ++ [])) (ks ++ []) end refl none
     (written_batches_are_read id format (ks ++ []) [] stored.unsynced.spellable are (subst whole.AreBytes all (each_byte bytes image.fits)))
 
--- the header of a file that has its batches on the disk is that of its format
-header_stays : (id : FileId) (format : LogFileFormat) (ks us : List Batch) (f : FileState) (bytes : List ℕ) → IsUnsynced id format ks us f → IsFileImage f bytes → (format_in bytes).alignment ≡ 0
-header_stays id format ks us f bytes u image =
-    let header : List ℕ = spelled_header format in
-    let text : List ℕ = file_text id format ks in
-    let tail : List ℕ = drop (length text) bytes in
-    let behind : List ℕ = spelled_batches (signature_of format.version id.seq) ks ++ tail in
-    let grouped : bytes ≡ header ++ behind = image_front f text bytes u.kept u.least u.outside image ∙ append_assoc header (spelled_batches (signature_of format.version id.seq) ks) tail in
-    let told : header_at bytes ≡ Ok format = ap header_at grouped ∙ header_read format behind u.spellable in
-    ap (λ (h : Result LogFileFormat HeaderFault). (read_or (λ (x : LogFileFormat). x) (λ (_ : HeaderFault). record { version = V1; alignment = 0 }) h).alignment) told ∙ u.plain
+-- a header that shows no alignment
+format_plain : (id : FileId) (f : FileState) (bytes : List ℕ) → IsUnaligned id f → IsFileImage f bytes → IsGenuine id f bytes → (format_in bytes).alignment ≡ 0
+format_plain id f bytes plain image genuine = by_header (header_at bytes) refl
+  where
+    by_header : (r : Result LogFileFormat HeaderFault) → header_at bytes ≡ r → (read_or (λ (x : LogFileFormat). x) (λ (_ : HeaderFault). record { version = V1; alignment = 0 }) r).alignment ≡ 0
+    by_header (Ok format) is = plain bytes format image genuine is
+    by_header (Err fault) is = refl
 
--- a file without bytes has no alignment
+-- a file without bytes has none
 bare_plain : (bytes : List ℕ) → bytes ≡ [] → (format_in bytes).alignment ≡ 0
 bare_plain bytes none = ap (λ (l : List ℕ). (format_in l).alignment) none ∙ refl
 
@@ -164,10 +163,13 @@ in_last [] f g (inr none) = absurd none
 in_last (x ∷ fs) f g (inl same) = inl (inl same)
 in_last (x ∷ fs) f g (inr there) = ⊎_elim (λ h. inl (inr h)) (λ h. inr h) (in_last fs f g there)
 
-module _ (p : SinglePipe) (d : Disk) (synced unsynced : Numbered) (named : IsNamed d) (alone : IsAlone p d) (holds : Holds p d synced unsynced) (image : Image) (e made : Disk) (names : List FileName) (crashed : IsCrashed d image e)
-    (makes : OnlyMakes (directories_of_pipe p) e made) (found : AreFound made (Log p.queue) (directories_of_pipe p) names) where
+module _ (p : SinglePipe) (d : Disk) (named : IsNamed d) (torn : IsTornAtEnd p d) (image : Image) (e made : Disk) (names : List FileName) (crashed : IsCrashed d image e) (makes : OnlyMakes (directories_of_pipe p) e made)
+    (found : AreFound made (Log p.queue) (directories_of_pipe p) names) where
   abbrev directories : List Text
   directories = directories_of_pipe p
+
+  abbrev files : List File
+  files = torn.older ++ torn.newest ∷ []
 
   same_names : made.names ≡ d.names
   same_names = ap (λ (y : Disk). y.names) makes.only ∙ crashed.names
@@ -175,29 +177,29 @@ module _ (p : SinglePipe) (d : Disk) (synced unsynced : Numbered) (named : IsNam
   left_there : (n : ℕ) → (made.file n).bytes ≡ image n
   left_there n = ap (λ (y : Disk). (y.file n).bytes) makes.only ∙ crashed.bytes n
 
-  are_for : AreFor made directories p.queue (files_of p) names
-  are_for = by_files p.older.items refl
+  are_for : AreFor made directories p.queue files names
+  are_for = by_files torn.older refl
     where
       opened : (fs : List File) × AreOpen made directories p.queue names fs
       opened = found_open made directories p.queue names found
 
-      last : AreLast made.names directories p.queue (files_of p)
-      last = subst (λ (n : Names). AreLast n directories p.queue (files_of p)) (sym same_names) alone
+      last : AreLast made.names directories p.queue files
+      last = subst (λ (n : Names). AreLast n directories p.queue files) (sym same_names) torn.last
 
       named_there : are_named made.names d.next ≡ true
       named_there = ap (λ (n : Names). are_named n d.next) same_names ∙ named
 
-      by_files : (fs : List File) → fs ≡ p.older.items → AreFor made directories p.queue (files_of p) names
+      by_files : (fs : List File) → fs ≡ torn.older → AreFor made directories p.queue files names
       by_files [] is =
-          let files : files_of p ≡ p.active ∷ [] = ap (λ (l : List File). l ++ p.active ∷ []) (sym is) in
-          subst (λ (l : List File). AreFor made directories p.queue l names) (sym files)
-          (named_for made directories p.queue (p.active ∷ []) opened.0 names
-          (same_found made d.next p.queue directories names p.active [] opened.0 named_there (subst (AreLast made.names directories p.queue) files last) found opened.1) opened.1)
+          let same : files ≡ torn.newest ∷ [] = ap (λ (l : List File). l ++ torn.newest ∷ []) (sym is) in
+          subst (λ (l : List File). AreFor made directories p.queue l names) (sym same)
+          (named_for made directories p.queue (torn.newest ∷ []) opened.0 names
+          (same_found made d.next p.queue directories names torn.newest [] opened.0 named_there (subst (AreLast made.names directories p.queue) same last) found opened.1) opened.1)
       by_files (f ∷ fs) is =
-          let files : files_of p ≡ f ∷ (fs ++ p.active ∷ []) = ap (λ (l : List File). l ++ p.active ∷ []) (sym is) in
-          subst (λ (l : List File). AreFor made directories p.queue l names) (sym files)
-          (named_for made directories p.queue (f ∷ (fs ++ p.active ∷ [])) opened.0 names
-          (same_found made d.next p.queue directories names f (fs ++ p.active ∷ []) opened.0 named_there (subst (AreLast made.names directories p.queue) files last) found opened.1) opened.1)
+          let same : files ≡ f ∷ (fs ++ torn.newest ∷ []) = ap (λ (l : List File). l ++ torn.newest ∷ []) (sym is) in
+          subst (λ (l : List File). AreFor made directories p.queue l names) (sym same)
+          (named_for made directories p.queue (f ∷ (fs ++ torn.newest ∷ [])) opened.0 names
+          (same_found made d.next p.queue directories names f (fs ++ torn.newest ∷ []) opened.0 named_there (subst (AreLast made.names directories p.queue) same last) found opened.1) opened.1)
 
   -- the number of a file is that of its name
   one_number : (name : FileName) (fd gd : ℕ) → IsFileOf made directories p.queue name fd → IsFileOf made directories p.queue name gd → fd ≡ gd
@@ -207,16 +209,18 @@ module _ (p : SinglePipe) (d : Disk) (synced unsynced : Numbered) (named : IsNam
       some_number a b is = cc
 
   -- a file with a fault that others follow is a hole
-  refused_hole : AnyRefused TolerateTailCorruption directories p.queue names made → HasHole p d
+  refused_hole : AnyRefused TolerateTailCorruption directories p.queue names made → HasLastingHole p d
   refused_hole (before, name, behind, split, (fd, fault, there, faulty, kept)) =
-      let f = older_for made directories p.queue p.older.items p.active before name behind (subst (AreFor made directories p.queue (files_of p)) split are_for) (followed behind kept) in
-      let o = older_at p.queue d p.older.items holds.before f.0 holds.olders f.1 in
-      let same : fd ≡ f.0.handle.0 = one_number name fd f.0.handle.0 there f.3 in
-      let here : fault_in (id_of p.queue f.0.seq) (image f.0.handle.0) ≡ Some fault
-      = (λ i. fault_in (id_of p.queue (f.2 i)) (sym (left_there f.0.handle.0) i)) ∙ ap (λ n. fault_in (id_of p.queue name.seq) (made.file n).bytes) (sym same) ∙ faulty in
+      let f = older_for made directories p.queue torn.older torn.newest before name behind (subst (AreFor made directories p.queue files) split are_for) (followed behind kept) in
+      let o = older_at p.queue d torn.older torn.batches f.0 torn.whole f.1 in
+      let id : FileId = id_of p.queue f.0.seq in
+      let n : ℕ = f.0.handle.0 in
+      let same : fd ≡ n = one_number name fd n there f.3 in
+      let here : fault_in id (image n) ≡ Some fault
+      = (λ i. fault_in (id_of p.queue (f.2 i)) (sym (left_there n) i)) ∙ ap (λ m. fault_in (id_of p.queue name.seq) (made.file m).bytes) (sym same) ∙ faulty in
       ⊎_elim
-      (λ stored. absurd (never fault (sym (ended_sound (id_of p.queue f.0.seq) f.0.format o.0 o.1.offset (d.file f.0.handle.0) (image f.0.handle.0) stored o.1.ended (image_there d image (id_of p.queue f.0.seq) f.0.handle.0 o.1.named crashed.is)) ∙ here)))
-      (λ blank. (f.0, f.1, blank.bytes))
+      (λ stored. absurd (never fault (sym (ended_sound id f.0.format o.0 o.1.offset (d.file n) (image n) stored o.1.ended (image_there d image id n o.1.named crashed.is)) ∙ here)))
+      (λ blank. (f.0, torn.known f.0 f.1 blank.bytes, blank.bytes, λ later is. still_is_left (d.file n) (later n) o.1.ended.still (image_there d later id n o.1.named is) ∙ blank.bytes))
       o.1.stored
     where
       followed : (l : List FileName) → (length l == 0) ≡ false → 0 < length l
@@ -229,23 +233,29 @@ module _ (p : SinglePipe) (d : Disk) (synced unsynced : Numbered) (named : IsNam
   -- none has an alignment
   none_aligned : AnyAligned directories p.queue names made → ⊥
   none_aligned (name, fd, among, there, aligned) =
-      let f = any_for made directories p.queue (files_of p) names name are_for among in
+      let f = any_for made directories p.queue files names name are_for among in
       let same : fd ≡ f.0.handle.0 = one_number name fd f.0.handle.0 there f.3 in
-      aligned (ap (λ n. (format_in (made.file n).bytes).alignment) same ∙ ap (λ (l : List ℕ). (format_in l).alignment) (left_there f.0.handle.0) ∙ by_place f.0 (in_last p.older.items f.0 p.active f.1))
+      aligned (ap (λ n. (format_in (made.file n).bytes).alignment) same ∙ ap (λ (l : List ℕ). (format_in l).alignment) (left_there f.0.handle.0) ∙ by_place f.0 (in_last torn.older f.0 torn.newest f.1))
     where
-      by_place : (f : File) → IsIn f p.older.items ⊎ (f ≡ p.active) → (format_in (image f.handle.0)).alignment ≡ 0
-      by_place f (inr is) =
-          ap (λ (x : File). (format_in (image x.handle.0)).alignment) is
-          ∙ header_stays (id_of p.queue p.active.seq) p.active.format holds.ks holds.us (d.file p.active.handle.0) (image p.active.handle.0) holds.stored.unsynced
-          (image_there d image (id_of p.queue p.active.seq) p.active.handle.0 holds.named crashed.is)
+      newest_plain : (format_in (image torn.newest.handle.0)).alignment ≡ 0
+      newest_plain =
+          let f : File = torn.newest in
+          let stands = in_all (λ (x : File). StandsAt d.names directories p.queue x.seq x.path_id x.handle.0) files f torn.last.each (in_second f torn.older (f ∷ []) (inl refl)) in
+          let so = stands_named d directories p.queue f.seq f.path_id f.handle.0 stands in
+          let id : FileId = id_of p.queue f.seq in
+          format_plain id (d.file f.handle.0) (image f.handle.0) torn.plain (image_there d image id f.handle.0 so crashed.is) (genuine_there d image id f.handle.0 so crashed.genuine)
+
+      by_place : (f : File) → IsIn f torn.older ⊎ (f ≡ torn.newest) → (format_in (image f.handle.0)).alignment ≡ 0
+      by_place f (inr is) = ap (λ (x : File). (format_in (image x.handle.0)).alignment) is ∙ newest_plain
       by_place f (inl older) =
-          let o = older_at p.queue d p.older.items holds.before f holds.olders older in
-          let left = image_there d image (id_of p.queue f.seq) f.handle.0 o.1.named crashed.is in
+          let o = older_at p.queue d torn.older torn.batches f torn.whole older in
+          let id : FileId = id_of p.queue f.seq in
+          let left = image_there d image id f.handle.0 o.1.named crashed.is in
           ⊎_elim
-          (λ stored. header_stays (id_of p.queue f.seq) f.format o.0 [] (d.file f.handle.0) (image f.handle.0) stored.unsynced left)
+          (λ stored. format_plain id (d.file f.handle.0) (image f.handle.0) (unsynced_plain id f.format o.0 [] (d.file f.handle.0) stored.unsynced) left (genuine_there d image id f.handle.0 o.1.named crashed.genuine))
           (λ blank. bare_plain (image f.handle.0) (still_is_left (d.file f.handle.0) (image f.handle.0) o.1.ended.still left ∙ blank.bytes))
           o.1.stored
 
 pub torn_opened : TornTailsAreOpened
-torn_opened p d synced unsynced named alone holds image e made names crashed makes found (inl refused) = refused_hole p d synced unsynced named alone holds image e made names crashed makes found refused
-torn_opened p d synced unsynced named alone holds image e made names crashed makes found (inr aligned) = absurd (none_aligned p d synced unsynced named alone holds image e made names crashed makes found aligned)
+torn_opened p d named torn image e made names crashed makes found (inl refused) = refused_hole p d named torn image e made names crashed makes found refused
+torn_opened p d named torn image e made names crashed makes found (inr aligned) = absurd (none_aligned p d named torn image e made names crashed makes found aligned)

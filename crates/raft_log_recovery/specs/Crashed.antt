@@ -9,8 +9,9 @@ use Rattle.raft_log_pipe.specs.declared.file.File.{File}
 use Rattle.raft_log_pipe.specs.declared.pipe.SinglePipe.{SinglePipe}
 use Rattle.raft_log_files.specs.Settings.{Settings}
 use Rattle.raft_log_files.specs.declared.recovery.RecoveryMode.TheVariants.{TolerateAnyCorruption, TolerateTailCorruption}
-use Rattle.raft_log_pipe.specs.Alone.{IsAlone, IsNearlyAlone, IsOnce, Names, directories_of_pipe}
-use Rattle.raft_log_pipe.specs.Pipe.{Holds, Leaves, Numbered}
+use Rattle.raft_log_pipe.specs.Alone.{IsNearlyAlone, IsOnce, Names, directories_of_pipe}
+use Rattle.raft_log_pipe.specs.Pipe.{Leaves, Numbered}
+use Rattle.raft_log_pipe.specs.Torn.{IsTornAtEnd}
 use Rattle.raft_log_recovery.specs.declared.scan.FileKind.TheVariants.{Log}
 use Rattle.raft_log_recovery.specs.declared.scan.FileName.{FileName}
 use Rattle.raft_log_recovery.specs.Opening.{AnyAligned, batches_of}
@@ -50,14 +51,17 @@ CrashedPipesAreFound =
 abbrev pub HasHole : SinglePipe → Disk → Type 0
 HasHole p d = (f : File) × IsIn f p.older.items × ((d.file f.handle.0).bytes ≡ [])
 
--- Whatever a crash leaves of a pipe whose files are the last ones of its queue, at most the last one of them is torn. So an
--- opening that tolerates a torn tail refuses no fault of a file that it finds, and no header says an alignment; but where the
--- pipe has a hole. That no bytes pass by chance isn't needed: they stand in the last file alone
+-- so is each image of it
+abbrev pub HasLastingHole : SinglePipe → Disk → Type 0
+HasLastingHole p d = (f : File) × IsIn f p.older.items × ((d.file f.handle.0).bytes ≡ []) × ((image : Image) → IsImage d image → image f.handle.0 ≡ [])
+
+-- Of a pipe of which a crash leaves at most the newest file torn, an opening that tolerates a torn tail refuses no fault of a file
+-- that it finds, and no header says an alignment; but where the pipe has a hole
 abbrev pub TornTailsAreOpened : Type 0
 TornTailsAreOpened =
-    (p : SinglePipe) (d : Disk) (synced unsynced : Numbered) → IsNamed d → IsAlone p d → Holds p d synced unsynced
+    (p : SinglePipe) (d : Disk) → IsNamed d → IsTornAtEnd p d
     → (image : Image) (e made : Disk) (names : List FileName) → IsCrashed d image e → OnlyMakes (directories_of_pipe p) e made → AreFound made (Log p.queue) (directories_of_pipe p) names
-    → AnyRefused TolerateTailCorruption (directories_of_pipe p) p.queue names made ⊎ AnyAligned (directories_of_pipe p) p.queue names made → HasHole p d
+    → AnyRefused TolerateTailCorruption (directories_of_pipe p) p.queue names made ⊎ AnyAligned (directories_of_pipe p) p.queue names made → HasLastingHole p d
 
 -- ---- what clients need of openings
 

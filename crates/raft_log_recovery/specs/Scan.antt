@@ -91,11 +91,15 @@ abbrev pub AnyFile : List Text → Disk → Type 0
 AnyFile [] d = ⊥
 AnyFile (directory ∷ directories) d = IsFile d directory ⊎ AnyFile directories d
 
--- memory is missing, a directory is a file, or making one was refused and counted
+-- memory is missing, a directory is a file, or a change was refused and counted
 abbrev pub IsScanFault : List Text → Disk → Meter → Meter → Error → Type 0
 IsScanFault directories d old new e =
     (e ≡ Memory)
     ⊎ (((e ≡ Other NotADirectory) × AnyFile directories d) ⊎ ((e ≡ Io Refused) × (new.refusals ≡ min (old.refusals + 1) (2 ^ 64 - 1))))
+
+-- memory is missing, or deleting what is kept beside a file was refused and counted
+abbrev pub IsDropFault : Meter → Meter → Error → Type 0
+IsDropFault old new e = (e ≡ Memory) ⊎ ((e ≡ Io Refused) × (new.refusals ≡ min (old.refusals + 1) (2 ^ 64 - 1)))
 
 -- where nothing is set to refuse, only memory may be missing, or a directory be a file
 abbrev pub IsMadeUnless : Error → Type 0

@@ -9,6 +9,7 @@ ghost use Rattle.raft_log_recovery.specs.Scan.{AllMade, AnyFile, AreFound, IsMad
 
 use crate::directories::{directories_in, make_directories};
 use crate::scan::{FileKind, FileName, find_files};
+use crate::stale::drop_stale;
 use raft_log_files::{Config, Error, FileSystem};
 use raft_log_records::LogQueue;
 use std::alloc::Global;
@@ -44,8 +45,8 @@ impl DualPipesBuilder {
 
     /// Makes the directories that aren't there, and finds the files of both queues and the reserved
     /// ones: of each the last run of numbers that follow one another. Other files and directories
-    /// are passed over. A directory's path that is a file is `Other`. After an `Err` the builder is
-    /// as it was.
+    /// are passed over. What the file system still keeps beside files of a queue that are gone is
+    /// deleted. A directory's path that is a file is `Other`. After an `Err` the builder is as it was.
     pub fn scan<F: FileSystem>(&mut self, files: &mut F) -> Result<(), Error>
         ensures directories { OnOk result (map string_bytes self.new.directories.items ≡ directories_of (settings_of self.old.config)) }
         ensures made { OnOk result (AllMade (directories_of (settings_of self.old.config)) (F.disk files.new)) }
@@ -75,6 +76,8 @@ impl DualPipesBuilder {
             FileKind::Log(LogQueue::Rewrite),
         )?;
         let reserved = find_files(files, self.alloc, &directories, FileKind::Reserved)?;
+        drop_stale(files, self.alloc, &directories, LogQueue::Append, &append)?;
+        drop_stale(files, self.alloc, &directories, LogQueue::Rewrite, &rewrite)?;
         self.directories = directories;
         self.append_file_names = append;
         self.rewrite_file_names = rewrite;

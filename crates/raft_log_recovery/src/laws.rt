@@ -9,8 +9,9 @@ pub fn crashed_pipes_are_found()
     ensures { CrashedPipesAreFound }
 {}
 
-/// Whatever a crash leaves of a pipe whose files are the last ones of its queue, an opening that
-/// tolerates a torn tail refuses no fault of them, unless a file before the last one had no bytes.
+/// Of a pipe of which a crash leaves at most the newest file torn, as of one that no call was refused
+/// on (`pipes_are_torn_at_end`), an opening that tolerates a torn tail refuses no fault, unless a file
+/// before the last one has no bytes.
 pub fn torn_tails_are_opened()
     ensures { TornTailsAreOpened }
 {}

@@ -12,6 +12,7 @@ mod reading;
 mod recover;
 mod repair;
 mod scan;
+mod stale;
 
 pub use builder::DualPipesBuilder;
 pub use laws::{any_fault_is_tolerated, crashed_pipes_are_found, one_directory_is_enough};

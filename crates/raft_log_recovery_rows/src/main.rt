@@ -3,6 +3,7 @@
 #![tactic(auto)]
 
 mod batches;
+mod beside;
 mod damage;
 mod queues;
 mod rows;

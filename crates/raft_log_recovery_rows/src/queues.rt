@@ -56,6 +56,13 @@ fn open<F: FileSystem>(
     Ok((pipe, machine))
 }
 
+/// The files are looked for, and nothing else.
+pub fn scan<F: FileSystem>(files: &mut F, alloc: Global) -> Result<(), Error> {
+    let config = config_of(alloc, RecoveryMode::TolerateTailCorruption)?;
+    let mut builder = DualPipesBuilder::new(alloc, config);
+    builder.scan(files)
+}
+
 fn keys_in(alloc: Global, tables: &MemTables, count: u8) -> Result<Vec<bool>, AllocError> {
     let mut keys = Vec::new(alloc);
     for number in 0..count {

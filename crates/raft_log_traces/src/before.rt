@@ -102,6 +102,24 @@ impl GroupTrace {
         names_of(alloc, &self.deleted)
     }
 
+    /// One past the entries of which none stands in an append file, as far as there are entries:
+    /// those before it stand in the rewrite queue.
+    #[tactic(auto, unfolding(crate::specs::Traces::trace_in))]
+    pub fn rewritten_end(&self) -> u128
+        ensures below { (i : ℕ) → i < result → (trace_in self.now).entry_file i ≡ None }
+        ensures within { result ≤ (trace_in self.now).next }
+    {
+        earlier(self.floor, self.next)
+    }
+
+    /// The append file in which a key stands. None: it stands in the rewrite queue, or isn't there.
+    #[tactic(auto, unfolding(crate::specs::Traces::trace_in))]
+    pub fn key_file(&self, key: &[u8]) -> Option<FileSeq>
+        ensures { result ≡ (trace_in self.now).key_file key.now }
+    {
+        self.keys.get(key).copied()
+    }
+
     /// Which entries have to be rewritten before the files before one may go: from an index, below
     /// which none stands in an append file, up to before another one, from which on each stands in
     /// the file or in a later one. None: none has to be.

@@ -9,7 +9,7 @@ use Rattle.raft_laws.specs.GroupRun.{At}
 use Rattle.raft_laws.specs.GroupWorld.{Absent, NodeState, Up, Down}
 use Rattle.raft_laws.specs.NodeEvent.{Comes as ComesTo}
 use Rattle.raft_laws.specs.OneList.{AreNodeIds, applied_list}
-use Rattle.raft_list_facts.specs.Leads.{leading_of}
+pub use Rattle.raft_list_facts.specs.Leads.{leading_in}
 use Rattle.raft_list_facts.specs.declared.leading.Leading.{Leading}
 use Rattle.raft_machines.specs.Fold.{fold_of}
 use Rattle.raft_machines.specs.Machine.{MachineRules}
@@ -54,12 +54,6 @@ Lends rules (Up s) (Some machine) place = (machine ≡ fold_of rules (applied_li
 Lends rules (Up s) None place = (s ≡ state_of no_group) × (place ≡ None)
 Lends rules (Down x) machine place = (machine ≡ None) × (place ≡ None)
 Lends rules Absent machine place = (machine ≡ None) × (place ≡ None)
-
--- in this state of a group a node leads it with this, if it leads it
-abbrev pub leading_in : NodeState → Option Leading
-leading_in (Up s) = leading_of s
-leading_in (Down x) = None
-leading_in Absent = None
 
 module _ {N : Type 0} (rules : MachineRules) (acts : NodeActs N) (states : NodeStates N) where
   -- ---- where a node stands, and how it is led on
@@ -124,8 +118,8 @@ module _ {N : Type 0} (rules : MachineRules) (acts : NodeActs N) (states : NodeS
         → acts.reopens old workers (Ok outcomes) mid → acts.closes mid new
         → LeadsOn Anything (Reopen (acts.id old)) old new (λ o. o ≡ Stopped [])
     -- the machine that it lends is the group's, whichever of the states the node is in
-    pub lends : (node : N) (h : ℕ) (s : NodeState) (more : List NodeState) → states.may_be node h (s ∷ more)
+    pub lends : (node : N) (h : ℕ) (olds : List NodeState) (s : NodeState) → states.may_be node h olds → Contains olds s
         → Lends rules s (acts.machine_of node h) (acts.applied_of node h)
     -- and so is what it tells that it leads the group with
-    pub leads : (node : N) (h : ℕ) (told : Option Leading) (s : NodeState) (more : List NodeState) → states.may_be node h (s ∷ more)
+    pub leads : (node : N) (h : ℕ) (told : Option Leading) (olds : List NodeState) (s : NodeState) → states.may_be node h olds → Contains olds s
         → acts.leads node h told → told ≡ leading_in s

@@ -3,6 +3,7 @@ use Rattle.std.specs.Prelude.{◌≡◌, ◌+◌, ℕ, List, [], ◌∷◌, ◌+
 use Rattle.std.specs.List.{AllZip}
 use Rattle.std.specs.Option.{option_map}
 use Rattle.raft_group_step.specs.Message.{Message}
+use Rattle.raft_list_facts.specs.Accepting.{accepted_in}
 use Rattle.raft_sent_frames.specs.declared.frame.SentFrame.{SentFrame}
 use Rattle.raft_sent_frames.specs.declared.frame.SentNumber.{SentNumber}
 use Rattle.raft_cluster_events.specs.declared.event.ClusterEvent.{ClusterEvent}
@@ -111,8 +112,9 @@ pub record IsReport (downs : List ℕ) (history : List Recorded) (plain : List P
   pub begins : plain ≡ crashes_of downs ++ rest
   pub same : AreRecordedAs (crashes_of downs) history rest
 
--- a frame that was sent says its message
+-- a frame that was sent says its message, and tells what that accepts
 pub record IsSentAs (spells : ℕ → Message → List ℕ → Type 0) (group : ℕ) (frame : SentFrame) (m : Message) : Type 0 where
   pub sender : frame.sender ≡ m.sender
   pub addressee : frame.peer ≡ m.addressee
   pub spelled : spells group m frame.bytes
+  pub accepts : frame.accepts ≡ accepted_in m.body

@@ -183,6 +183,6 @@ module _ {M : Type 0} {g : Ghosts M} (rules : MachineRules) (state : M → List 
     crashes = crashes;
     reopens = reopens;
     closes = closes;
-    lends = λ node h s more may. lends_in rules state node.id node.up node.files h s more may;
-    leads = λ node h told s more may tells. leads_in rules state node.id node.up node.files h told s more may tells;
+    lends = λ node h olds s may has. lends_in rules state node.id node.up node.files h olds s may has;
+    leads = λ node h told olds s may has tells. leads_in rules state node.id node.up node.files h told olds s may has tells;
   }

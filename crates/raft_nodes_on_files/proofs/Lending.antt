@@ -1,13 +1,15 @@
 -- What a node on files lends and tells of a group, in each of the states in which it may be.
-use Rattle.std.specs.Prelude.{◌≡◌, ◌⊎◌, ℕ, Bool, true, false, List, [], ◌∷◌, Option, Some, None, option_map, refl}
+use Rattle.std.specs.Prelude.{◌≡◌, ◌⊎◌, ℕ, Bool, true, false, List, [], ◌∷◌, Option, Some, None, map, Contains, option_map, refl}
 use Rattle.std.proofs.Common.{inl, inr, sym, ap, ◌∙◌, subst, arith}
 use Rattle.raft_values.specs.declared.log_id.LogId.{LogId}
 use Rattle.raft_values.specs.LogId.{next_place}
 use Rattle.raft_group_step.specs.GroupState.{GroupState}
 use Rattle.raft_group_step.specs.SnapshotRequest.{place_above}
+use Rattle.raft_group_step.specs.StoredGroup.{StoredGroup}
 use Rattle.raft_laws.specs.GroupWorld.{Down, NodeState, Up}
 use Rattle.raft_list_facts.specs.Leads.{leading_of}
 use Rattle.raft_list_facts.specs.declared.leading.Leading.{Leading}
+use Rattle.raft_cluster_laws.proofs.EventKept.{is_only}
 use Rattle.raft_log_engine.specs.declared.memory.LogFiles.{LogFiles}
 use Rattle.raft_machines.specs.Machine.{MachineRules}
 use Rattle.raft_machines.specs.declared.machine.StateMachine.{Ghosts}
@@ -15,6 +17,8 @@ use Rattle.raft_node.specs.Reading.{TellsOf, machine_in, place_in}
 use Rattle.raft_node.specs.Running.{Running, RunsAt}
 use Rattle.raft_node.specs.Standing.{NodeValue}
 use Rattle.raft_node_joint.specs.Standing.{IsUpIn, MayBeWhen}
+use Rattle.raft_node_joint.proofs.LeadingDown.{is_stored}
+use Rattle.raft_node_joint.proofs.Others.{is_down}
 use Rattle.raft_node_laws.specs.Law.{Lends, leading_in}
 use Rattle.raft_nodes_on_files.specs.Acts.{LeadsAs, runs_of, unless_failed}
 use Rattle.raft_nodes_on_files.specs.Standing.{MayBeIn, UpNode, value}
@@ -31,8 +35,13 @@ same_place None (Some place) e = absurd (omega (arith, e))
 same_place (Some id) None e = absurd (omega (arith, e))
 same_place (Some id) (Some place) e = let at : id.index ≡ place = omega (arith, e) in ap (λ n. Some n) at
 
-same_first : {X : Type 0} (x y : X) (xs ys : List X) → x ∷ xs ≡ y ∷ ys → x ≡ y
-same_first x y xs ys e = cc e
+-- of a node that goes on there is one state
+same_one : (states : List NodeState) (x s : NodeState) → states ≡ x ∷ [] → Contains states s → s ≡ x
+same_one states x s alone has = is_only x s (subst (λ xs. Contains xs s) alone has)
+
+-- of one that is down each is a stored part
+stored_there : (parts : List StoredGroup) (states : List NodeState) (s : NodeState) → states ≡ map Down parts → Contains states s → (st : StoredGroup) × (s ≡ Down st)
+stored_there parts states s are has = is_stored parts s (subst (λ xs. Contains xs s) are has)
 
 module _ (rules : MachineRules) where
   lends_running : (r : Option Running) (s : GroupState) → RunsAt rules r s → Lends rules (Up s) (machine_in r) (place_in r)
@@ -43,32 +52,35 @@ module _ (rules : MachineRules) where
   lends_up n h s (inl at) = lends_running (n.running h) s at.runs
   lends_up n h s (inr (none, without)) = subst (λ r. Lends rules (Up s) (machine_in r) (place_in r)) (sym without.idle) (none, refl)
 
-  lends_when : (failed : Bool) (n : NodeValue) (h : ℕ) (s : NodeState) (more : List NodeState) → MayBeWhen rules n h failed (s ∷ more)
+  lends_when : (failed : Bool) (n : NodeValue) (h : ℕ) (states : List NodeState) (s : NodeState) → MayBeWhen rules n h failed states → Contains states s
       → Lends rules s (machine_in (unless_failed failed (n.running h))) (place_in (unless_failed failed (n.running h)))
-  lends_when false n h s more (t, is, up) =
-      subst (λ x. Lends rules x (machine_in (n.running h)) (place_in (n.running h))) (sym (same_first s (Up t) more [] is)) (lends_up n h t up)
-  lends_when true n h s more (one, others, is, shown) = subst (λ x. Lends rules x None None) (sym (same_first s (Down one) more _ is)) (refl, refl)
+  lends_when false n h states s (t, is, up) has =
+      subst (λ x. Lends rules x (machine_in (n.running h)) (place_in (n.running h))) (sym (same_one states (Up t) s is has)) (lends_up n h t up)
+  lends_when true n h states s may has =
+      let (st, down) = is_down rules n h states may s has in subst (λ x. Lends rules x None None) (sym down) (refl, refl)
 
   leads_up : (n : NodeValue) (h : ℕ) (told : Option Leading) (s : GroupState) → n.groups.has_failed ≡ false → IsUpIn rules n h s → TellsOf n h told leading_of
       → told ≡ leading_of s
   leads_up n h told s going (inl at) tells = tells.up s going at.up
   leads_up n h told s going (inr (none, without)) tells = tells.absent without.absent.0 ∙ sym (ap leading_of none)
 
-  leads_when : (failed : Bool) (n : NodeValue) (h : ℕ) (told : Option Leading) (s : NodeState) (more : List NodeState) → n.groups.has_failed ≡ failed
-      → MayBeWhen rules n h failed (s ∷ more) → TellsOf n h told leading_of → told ≡ leading_in s
-  leads_when false n h told s more going (t, is, up) tells =
-      leads_up n h told t going up tells ∙ sym (ap leading_in (same_first s (Up t) more [] is))
-  leads_when true n h told s more failed (one, others, is, shown) tells =
-      tells.failed failed ∙ sym (ap leading_in (same_first s (Down one) more _ is))
+  leads_when : (failed : Bool) (n : NodeValue) (h : ℕ) (told : Option Leading) (states : List NodeState) (s : NodeState) → n.groups.has_failed ≡ failed
+      → MayBeWhen rules n h failed states → Contains states s → TellsOf n h told leading_of → told ≡ leading_in s
+  leads_when false n h told states s going (t, is, up) has tells =
+      leads_up n h told t going up tells ∙ sym (ap leading_in (same_one states (Up t) s is has))
+  leads_when true n h told states s failed may has tells =
+      let (st, down) = is_down rules n h states may s has in tells.failed failed ∙ sym (ap leading_in down)
 
 module _ {M : Type 0} {g : Ghosts M} (rules : MachineRules) (state : M → List ℕ) where
-  pub lends_in : (id : ℕ) (up : Option (UpNode M g)) (files : LogFiles) (h : ℕ) (s : NodeState) (more : List NodeState) → MayBeIn rules state id up files h (s ∷ more)
-      → Lends rules s (machine_in (runs_of rules state up h)) (place_in (runs_of rules state up h))
-  lends_in id None files h s more m = subst (λ x. Lends rules x None None) (sym (same_first s (Down m.one) more _ m.parts)) (refl, refl)
-  lends_in id (Some n) files h s more m = lends_when rules n.groups.has_failed (value rules state n) h s more m.may_be
+  pub lends_in : (id : ℕ) (up : Option (UpNode M g)) (files : LogFiles) (h : ℕ) (states : List NodeState) (s : NodeState)
+      → MayBeIn rules state id up files h states → Contains states s → Lends rules s (machine_in (runs_of rules state up h)) (place_in (runs_of rules state up h))
+  lends_in id None files h states s m has =
+      let (st, down) = stored_there (m.one ∷ m.more) states s m.parts has in subst (λ x. Lends rules x None None) (sym down) (refl, refl)
+  lends_in id (Some n) files h states s m has = lends_when rules n.groups.has_failed (value rules state n) h states s m.may_be has
 
-  pub leads_in : (id : ℕ) (up : Option (UpNode M g)) (files : LogFiles) (h : ℕ) (told : Option Leading) (s : NodeState) (more : List NodeState)
-      → MayBeIn rules state id up files h (s ∷ more) → LeadsAs rules state up h told → told ≡ leading_in s
-  leads_in id None files h told s more m tells = tells ∙ sym (ap leading_in (same_first s (Down m.one) more _ m.parts))
-  leads_in id (Some n) files h told s more m tells =
-      leads_when rules n.groups.has_failed (value rules state n) h told s more refl m.may_be tells
+  pub leads_in : (id : ℕ) (up : Option (UpNode M g)) (files : LogFiles) (h : ℕ) (told : Option Leading) (states : List NodeState) (s : NodeState)
+      → MayBeIn rules state id up files h states → Contains states s → LeadsAs rules state up h told → told ≡ leading_in s
+  leads_in id None files h told states s m has tells =
+      let (st, down) = stored_there (m.one ∷ m.more) states s m.parts has in tells ∙ sym (ap leading_in down)
+  leads_in id (Some n) files h told states s m has tells =
+      leads_when rules n.groups.has_failed (value rules state n) h told states s refl m.may_be has tells

@@ -23,6 +23,8 @@ pub struct SentFrame {
     pub peer: u64,
     /// Its bytes, whole.
     pub bytes: Bytes,
+    /// What its message accepts, if anything.
+    pub accepts: Option<Acceptance>,
 }
 
 /// A frame by its number (own).

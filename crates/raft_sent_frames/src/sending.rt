@@ -17,13 +17,18 @@ fn push_all(
     ensures numbers { OnOk result (numbers.new ≡ numbers.old ++ numbers_from (length list.old) frames) }
     ensures front { OnErr result (HasFront list.old list.new) }
 {
-    for NodeFrame { peer, bytes, .. } in frames.into_vec() {
+    for NodeFrame {
+        peer,
+        bytes,
+        accepts,
+    } in frames.into_vec() {
         let number = list.len() as u64;
         numbers.push(SentNumber { peer, number })?;
         list.push(SentFrame {
             sender,
             peer,
             bytes,
+            accepts,
         })?;
     }
     Ok(())

@@ -5,16 +5,17 @@ use Rattle.raft_log_pipe.specs.Alone.{IsAlone, IsNearlyAlone}
 use Rattle.raft_log_pipe.proofs.AloneLemmas.{alone_on, nearly_on}
 use Rattle.raft_log_pipe.proofs.BlockLemmas.{same_files, then_files}
 use Rattle.raft_log_engine.specs.Held.{HoldsMore}
-use Rattle.raft_log_engine.proofs.Appended.{appended_more, still_stands, synced_more, then_as_before, unsynced_leaves}
+use Rattle.raft_log_engine.proofs.Appended.{appended_more, set_then, still_stands, synced_more, then_as_before, unsynced_leaves, unsynced_torn}
 use Rattle.raft_log_disk.proofs.RefusalLemmas.{no_more_then, still_free}
 use Rattle.raft_log_records.specs.declared.file_id.FileBlockHandle.{FileBlockHandle}
 use Rattle.raft_log_engine.proofs.Taken.{sync_for}
 use Rattle.std.proofs.Common.{ℕ}
-use Rattle.raft_log_disk.specs.Cause.{Rises}
+use Rattle.raft_log_disk.specs.Cause.{Lacks, Rises}
 use Rattle.raft_log_files.specs.declared.error.Error.{Error}
 use Rattle.raft_log_pipe.specs.Caused.{BeginsFiles, IsAppendFault, LacksNumber, LacksPlace}
 use Rattle.raft_log_pipe.specs.Taken.{IsFull}
 use Rattle.raft_log_pipe.proofs.CausedLemmas.{caused_for, rises_then, told_cause}
+use Rattle.raft_log_pipe.specs.Torn.{TearsAtEnd}
 use Rattle.raft_log_engine.proofs.appending.append_batch.Goals as goal
 
 pub returns-then-not-sync-clause-ok : goal.returns-then-not-sync-clause-ok
@@ -120,5 +121,27 @@ returns-in_err-sync-clause-cause g c =
     let b = g.F.FileSystem.meter c.append.new.files in
     let e = g.F.FileSystem.meter c.sync.new.files in
     told_cause c.from_residual-in_err-sync.result c.in_err-sync.field-0.0 (λ (x : Error). IsAppendFault p d a e x) c.from_residual-in_err-sync.ensures.1
-    (caused_for (Rises 1 b e) ⊥ ⊥ ⊥ (Rises 1 a e) (Rises 2 a e) ((n : ℕ) × BeginsFiles (IsFull p) a e n × LacksNumber p n) ((n : ℕ) × BeginsFiles (IsFull p) a e n × LacksPlace p d n) c.in_err-sync.field-0.0
+    (caused_for (Rises 1 b e) ⊥ ⊥ ⊥ (Rises 1 a e) (Lacks 2 a e) ((n : ℕ) × BeginsFiles (IsFull p) a e n × LacksNumber p n) ((n : ℕ) × BeginsFiles (IsFull p) a e n × LacksPlace p d n) c.in_err-sync.field-0.0
     (rises_then 0 1 a b e c.in_ok-handle.ensures.later.counts) (λ x. absurd x) (λ x. absurd x) (λ x. absurd x) c.in_err-sync.ensures.cause)
+
+-- ---- which file may be torn
+
+pub returns-in_err-handle-clause-torn : goal.returns-in_err-handle-clause-torn
+returns-in_err-handle-clause-torn g c = at_err _ _ c.in_err-handle.ensures.call.torn
+
+pub returns-in_err-sync-clause-torn : goal.returns-in_err-sync-clause-torn
+returns-in_err-sync-clause-torn g c =
+    let same = c.in_err-sync.ensures.call.same in
+    at_err _ (TearsAtEnd c.args.pipes.now.append (g.F.FileSystem.disk c.args.files.now) c.sync.new.self.append (g.F.FileSystem.disk c.sync.new.files))
+    (unsynced_torn c.args.pipes.now.append c.append.new.self.append c.sync.new.self.append (g.F.FileSystem.disk c.args.files.now) (g.F.FileSystem.disk c.append.new.files) (g.F.FileSystem.disk c.sync.new.files) c.in_ok-handle.handle.id.seq c.args.batch.now.items
+    (λ alone. alone_on c.append.new.self.append c.sync.new.self.append (g.F.FileSystem.disk c.append.new.files) (g.F.FileSystem.disk c.sync.new.files) (same.0, same.1, c.sync.new.self.appends ∙ sym c.append.new.self.appends) c.in_err-sync.ensures.call.paths c.in_err-sync.ensures.call.names
+    (c.in_ok-handle.ensures.call.alone alone))
+    c.in_ok-handle.ensures.call.ok c.in_err-sync.ensures.call.err)
+
+-- ---- the settings stay
+
+pub returns-in_err-sync-clause-set : goal.returns-in_err-sync-clause-set
+returns-in_err-sync-clause-set g c = set_then c.args.pipes.now c.append.new.self c.sync.new.self c.in_ok-handle.ensures.set c.in_err-sync.ensures.set
+
+pub returns-clause-set : goal.returns-clause-set
+returns-clause-set g c = set_then c.args.pipes.now c.append.new.self c.sync.new.self c.in_ok-handle.ensures.set c.in_ok-sync.ensures.set

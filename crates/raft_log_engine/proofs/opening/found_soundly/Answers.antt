@@ -16,6 +16,13 @@ use Rattle.raft_log_engine.specs.Reopened.{StandAlone, directories_of_pipes}
 use Rattle.raft_log_recovery.proofs.DirectoryLemmas.{makes_none}
 use Rattle.raft_log_recovery.specs.Scan.{directories_of}
 use Rattle.raft_log_engine.proofs.Corrupt.{along, passed_on, sound_fault, sound_none, sound_refused}
+use Rattle.std.proofs.Common.{None}
+use Rattle.std.specs.Prelude.{IfErr}
+use Rattle.raft_log_disk.proofs.RefusalLemmas.{no_more_same}
+use Rattle.raft_log_pipe.proofs.CausedLemmas.{told_cause}
+use Rattle.raft_log_engine.specs.declared.fault.EngineFault.{EngineFault}
+use Rattle.raft_log_engine.specs.Unopened.{IsOpeningFault}
+use Rattle.raft_log_engine.proofs.Unopened.{for_settings, free_opening, unsound_cause}
 use Rattle.raft_log_engine.proofs.opening.found_soundly.Goals as goal
 
 pub returns-in_err-sound-clause-err : goal.returns-in_err-sound-clause-err
@@ -82,3 +89,40 @@ returns-clause-settings g c = subst (λ (s : Settings). IfOk c.recovered.result 
 pub returns-clause-holes : goal.returns-clause-holes
 returns-clause-holes g c =
     subst (λ (m : RecoveryMode). IfOk c.recovered.result (λ found. HasHolesIn m (g.F.FileSystem.disk c.recovered.new.files) found.0)) c.in_ok-sound.ensures.mode c.recovered.ensures.holes
+
+-- ---- why it is refused
+
+pub returns-in_err-sound-clause-later : goal.returns-in_err-sound-clause-later
+returns-in_err-sound-clause-later g c = no_more_same _ _
+
+pub returns-in_err-sound-clause-cause : goal.returns-in_err-sound-clause-cause
+returns-in_err-sound-clause-cause g c =
+    let said = directories_of (settings_of c.args.config) in
+    let d = g.F.FileSystem.disk c.args.files.now in
+    let free = g.F.FileSystem.is_bounded c.args.files.now in
+    let a = g.F.FileSystem.meter c.args.files.now in
+    let unsound = settings_fault (settings_of c.args.config) in
+    told_cause c.from_residual.result (Log c.in_err-sound.field-0.0) (λ (x : EngineFault). IsOpeningFault unsound c.args.config.recovery_mode said d d free a a x) c.from_residual.ensures.1
+    (unsound_cause Config c.args.config.recovery_mode said d free a unsound c.in_err-sound.field-0.0 c.in_err-sound.ensures.refused)
+
+pub returns-in_err-sound-clause-taken : goal.returns-in_err-sound-clause-taken
+returns-in_err-sound-clause-taken g c =
+    let d = g.F.FileSystem.disk c.args.files.now in
+    let a = g.F.FileSystem.meter c.args.files.now in
+    free_opening c.args.config.recovery_mode (directories_of (settings_of c.args.config)) d d (g.F.FileSystem.is_bounded c.args.files.now) a a (settings_fault (settings_of c.args.config)) c.from_residual.result
+    (returns-in_err-sound-clause-cause g c)
+
+pub returns-clause-cause : goal.returns-clause-cause
+returns-clause-cause g c =
+    let d = g.F.FileSystem.disk c.args.files.now in
+    let new = g.F.FileSystem.disk c.recovered.new.files in
+    let free = g.F.FileSystem.is_bounded c.args.files.now in
+    let a = g.F.FileSystem.meter c.args.files.now in
+    let b = g.F.FileSystem.meter c.recovered.new.files in
+    for_settings c.args.config.recovery_mode (directories_of (settings_of c.args.config)) d new free a b (settings_fault (settings_of c.args.config)) c.recovered.result
+    (along (λ m l. IfErr c.recovered.result (λ x. IsOpeningFault None m l d new free a b x)) c.in_ok-sound.ensures.mode c.in_ok-sound.ensures.directories c.recovered.ensures.cause)
+
+pub returns-clause-taken : goal.returns-clause-taken
+returns-clause-taken g c =
+    free_opening c.args.config.recovery_mode (directories_of (settings_of c.args.config)) (g.F.FileSystem.disk c.args.files.now) (g.F.FileSystem.disk c.recovered.new.files) (g.F.FileSystem.is_bounded c.args.files.now)
+    (g.F.FileSystem.meter c.args.files.now) (g.F.FileSystem.meter c.recovered.new.files) (settings_fault (settings_of c.args.config)) c.recovered.result (returns-clause-cause g c)

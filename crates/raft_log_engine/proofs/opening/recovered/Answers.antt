@@ -20,6 +20,14 @@ use Rattle.raft_log_recovery.specs.Scan.{IsScanFault}
 use Rattle.raft_log_engine.specs.Opening.{CantBeOpened}
 use Rattle.raft_log_engine.proofs.Corrupt.{cant_open, passed_on, scan_sound}
 use Rattle.raft_log_disk.specs.declared.format.LogFileFormat.{LogFileFormat}
+use Rattle.std.proofs.Common.{None}
+use Rattle.raft_log_disk.proofs.RefusalLemmas.{no_more_then}
+use Rattle.raft_log_pipe.proofs.CausedLemmas.{told_cause}
+use Rattle.raft_log_recovery.specs.Scan.{AllMade}
+use Rattle.raft_log_engine.specs.declared.fault.EngineFault.{EngineFault}
+use Rattle.raft_log_engine.specs.declared.fault.EngineFault.TheVariants as fault
+use Rattle.raft_log_engine.specs.Unopened.{IsOpeningFault}
+use Rattle.raft_log_engine.proofs.Unopened.{both_cause, free_opening, scan_cause}
 use Rattle.raft_log_engine.proofs.opening.recovered.Goals as goal
 
 -- the format of new files
@@ -141,3 +149,57 @@ pub returns-clause-holes : goal.returns-clause-holes
 returns-clause-holes g c =
     let same = c.in_ok-scan.ensures.config ∙ c.new-builder.ensures.config in
     λ queue hole. sym (ap (λ (k : Config). k.recovery_mode) same) ∙ (c.in_ok-pipes.ensures.holes queue hole).0
+
+-- ---- why it is refused
+
+pub returns-clause-later : goal.returns-clause-later
+returns-clause-later g c = no_more_then c.in_ok-scan.ensures.later c.in_ok-pipes.ensures.later
+
+pub returns-in_err-pipes-clause-later : goal.returns-in_err-pipes-clause-later
+returns-in_err-pipes-clause-later g c = no_more_then c.in_ok-scan.ensures.later c.in_err-pipes.ensures.later
+
+pub returns-in_err-scan-clause-cause : goal.returns-in_err-scan-clause-cause
+returns-in_err-scan-clause-cause g c =
+    let said = directories_of (settings_of c.args.config) in
+    let built = directories_of (settings_of c.new-builder.result.config) in
+    let d = g.F.FileSystem.disk c.args.files.now in
+    let new = g.F.FileSystem.disk c.scan.new.files in
+    let free = g.F.FileSystem.is_bounded c.args.files.now in
+    let a = g.F.FileSystem.meter c.args.files.now in
+    let b = g.F.FileSystem.meter c.scan.new.files in
+    told_cause c.from_residual.result (fault.Log c.in_err-scan.field-0.0) (λ (x : EngineFault). IsOpeningFault None c.args.config.recovery_mode said d new free a b x) c.from_residual.ensures.1
+    (subst (λ (k : Config). IsOpeningFault None c.args.config.recovery_mode (directories_of (settings_of k)) d new free a b (fault.Log c.in_err-scan.field-0.0)) c.new-builder.ensures.config
+    (scan_cause c.args.config.recovery_mode built d new free a b c.in_err-scan.field-0.0 c.in_err-scan.ensures.err c.in_err-scan.ensures.taken))
+
+pub returns-in_err-scan-clause-taken : goal.returns-in_err-scan-clause-taken
+returns-in_err-scan-clause-taken g c =
+    free_opening c.args.config.recovery_mode (directories_of (settings_of c.args.config)) (g.F.FileSystem.disk c.args.files.now) (g.F.FileSystem.disk c.scan.new.files) (g.F.FileSystem.is_bounded c.args.files.now)
+    (g.F.FileSystem.meter c.args.files.now) (g.F.FileSystem.meter c.scan.new.files) None c.from_residual.result (returns-in_err-scan-clause-cause g c)
+
+pub returns-in_err-pipes-clause-cause : goal.returns-in_err-pipes-clause-cause
+returns-in_err-pipes-clause-cause g c =
+    let said = directories_of (settings_of c.args.config) in
+    let mode = c.args.config.recovery_mode in
+    let d = g.F.FileSystem.disk c.args.files.now in
+    let builder = c.scan.new.self in
+    let made = g.F.FileSystem.disk c.scan.new.files in
+    let new = g.F.FileSystem.disk c.recover_alone.new.files in
+    let free = g.F.FileSystem.is_bounded c.args.files.now in
+    let a = g.F.FileSystem.meter c.args.files.now in
+    let b = g.F.FileSystem.meter c.scan.new.files in
+    let e = g.F.FileSystem.meter c.recover_alone.new.files in
+    let at = c.in_ok-scan.ensures.directories ∙ ap (λ (k : Config). directories_of (settings_of k)) c.new-builder.ensures.config in
+    let alike = ap (λ (k : Config). k.recovery_mode) (c.in_ok-scan.ensures.config ∙ c.new-builder.ensures.config) in
+    let makes = subst (λ (k : Config). OnlyMakes (directories_of (settings_of k)) d made) c.new-builder.ensures.config c.in_ok-scan.ensures.only in
+    let all = subst (λ (k : Config). AllMade (directories_of (settings_of k)) made) c.new-builder.ensures.config c.in_ok-scan.ensures.made in
+    let append = subst (λ (l : List Text). AreFound made (Log Append) l (names_in builder Append)) (sym c.in_ok-scan.ensures.directories) c.in_ok-scan.ensures.append in
+    let rewrite = subst (λ (l : List Text). AreFound made (Log Rewrite) l (names_in builder Rewrite)) (sym c.in_ok-scan.ensures.directories) c.in_ok-scan.ensures.rewrite in
+    told_cause c.from_residual-in_err-pipes.result (fault.Log c.in_err-pipes.field-0.0) (λ (x : EngineFault). IsOpeningFault None mode said d new free a e x) c.from_residual-in_err-pipes.ensures.1
+    (both_cause mode said d new free a e builder at made makes all append rewrite (g.F.FileSystem.is_bounded c.scan.new.files) b c.in_ok-scan.ensures.later c.in_err-pipes.field-0.0 c.in_err-pipes.ensures.cause
+    (λ f same. let cant = c.in_err-pipes.ensures.corrupt f (λ i. Err (same i)) in
+    (cant.0, cant_open builder mode said at alike d made makes append rewrite cant.0 cant.1)))
+
+pub returns-in_err-pipes-clause-taken : goal.returns-in_err-pipes-clause-taken
+returns-in_err-pipes-clause-taken g c =
+    free_opening c.args.config.recovery_mode (directories_of (settings_of c.args.config)) (g.F.FileSystem.disk c.args.files.now) (g.F.FileSystem.disk c.recover_alone.new.files) (g.F.FileSystem.is_bounded c.args.files.now)
+    (g.F.FileSystem.meter c.args.files.now) (g.F.FileSystem.meter c.recover_alone.new.files) None c.from_residual-in_err-pipes.result (returns-in_err-pipes-clause-cause g c)

@@ -5,6 +5,8 @@ use Rattle.raft_log_file.specs.declared.writer.LogFileWriter.{LogFileWriter}
 use Rattle.raft_log_pipe.proofs.TakenLemmas.{no_file_before, still_taken}
 use Rattle.raft_log_pipe.proofs.NextLemmas.{opened_begun, opened_changes, opened_short, unsynced_short}
 use Rattle.raft_log_pipe.proofs.PipeLemmas.{changes_on, stays}
+use Rattle.std.proofs.Common.{refl}
+use Rattle.raft_log_pipe.proofs.TornLemmas.{opened_plain}
 use Rattle.raft_log_pipe.proofs.rotate.begin_file.Goals as goal
 
 pub returns-in-Err-clause-begun : goal.returns-in-Err-clause-begun
@@ -30,3 +32,11 @@ returns-in-Err-sync-clause-taken g c = λ free.
 pub returns-clause-begun : goal.returns-clause-begun
 returns-clause-begun g c =
     opened_begun (g.F.FileSystem.disk c.args.files.now) (g.F.FileSystem.disk c.build_file_writer.new.files) (g.F.FileSystem.disk c.sync.new.files) c.args.file c.in-Ok.writer c.in-Ok.ensures.opens c.in-Ok.ensures.writer c.in-Ok.ensures.file c.in_default.ensures.ok
+
+-- ---- what its header says then
+
+pub returns-in-Err-clause-plain : goal.returns-in-Err-clause-plain
+returns-in-Err-clause-plain g c = opened_plain _ _ _ _ c.args.file.format (Err c.in-Err.fault) c.requires c.in-Err.ensures.opens refl
+
+pub returns-in-Err-sync-clause-plain : goal.returns-in-Err-sync-clause-plain
+returns-in-Err-sync-clause-plain g c = opened_plain _ _ _ _ c.args.file.format (Ok c.in-Ok.writer) c.requires c.in-Ok.ensures.opens c.in-Err-sync.ensures.err

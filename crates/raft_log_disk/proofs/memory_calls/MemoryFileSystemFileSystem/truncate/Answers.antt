@@ -1,4 +1,4 @@
-use Rattle.std.proofs.Common.{inl, inr, ◌≡◌, ◌-◌, length, arith, refl, sym, ap, subst, ◌+◌, ◌^◌, min, ◌∙◌}
+use Rattle.std.proofs.Common.{false, inl, inr, ◌≡◌, ◌-◌, length, arith, refl, sym, ap, subst, ◌+◌, ◌^◌, min, ◌∙◌}
 use Rattle.std.specs.Prelude.{Vec, String}
 use Rattle.std.specs.declared.alloc.Global.{Global}
 use Rattle.raft_log_disk.specs.Disk.{LacksRoom}
@@ -12,14 +12,14 @@ pub returns-then-is_cramped-clause-cause : goal.returns-then-is_cramped-clause-c
 returns-then-is_cramped-clause-cause c =
     let there = length_there _ _ _ _ c.in-Some.ensures c.index.ensures in
     let growth : c.saturating_sub-growth.result ≡ c.args.len - length (file_of c.args.self.now.files.items c.args.fd.0).bytes = omega (arith, there, c.saturating_sub-growth.ensures, c.len.ensures) in
-    cramped_cause _ _ _ _ _ c.lack_space.ensures.fault (c.lack_space.ensures.counted ∙ ap (λ n. min (n + 1) (2 ^ 64 - 1)) c.spend-is_refused.ensures.refusals) (ap (λ (v : Vec (String Global) Global). texts_of v.items) (c.lack_space.ensures.reads ∙ c.spend-is_refused.ensures.reads))
+    cramped_cause false _ _ _ _ _ c.lack_room.ensures.fault (c.lack_room.ensures.counted ∙ ap (λ n. min (n + 1) (2 ^ 64 - 1)) c.spend-is_refused.ensures.refusals) (c.lack_room.ensures.lacks ∙ c.spend-is_refused.ensures.lacks) (ap (λ (v : Vec (String Global) Global). texts_of v.items) (c.lack_room.ensures.reads ∙ c.spend-is_refused.ensures.reads))
     (subst (LacksRoom (room_in c.args.self.now) (disk_in c.args.self.now) c.args.fd.0) growth (c.if-is_cramped.ensures.yes refl c.args.fd.0 c.in-Some.ensures))
 
 pub returns-clause-cause : goal.returns-clause-cause
 returns-clause-cause c =
     let there = length_there _ _ _ _ c.in-Some.ensures c.index.ensures in
     let growth : c.saturating_sub-growth.result ≡ c.args.len - length (file_of c.args.self.now.files.items c.args.fd.0).bytes = omega (arith, there, c.saturating_sub-growth.ensures, c.len.ensures) in
-    taken_cause _ _ _ _ _ c.spend-is_refused.ensures.refusals (ap (λ (v : Vec (String Global) Global). texts_of v.items) c.spend-is_refused.ensures.reads)
+    taken_cause false _ _ _ _ _ c.spend-is_refused.ensures.refusals c.spend-is_refused.ensures.lacks (ap (λ (v : Vec (String Global) Global). texts_of v.items) c.spend-is_refused.ensures.reads)
     (number_there c.args.self.now.directories.items _ c.args.self.now.next _ _ c.index_mut-2.result.now c.in-Some.ensures)
     (λ short. let yes = c.if-is_cramped.ensures.no c.args.fd.0 c.in-Some.ensures (subst (LacksRoom (room_in c.args.self.now) (disk_in c.args.self.now) c.args.fd.0) (sym growth) short) in absurd cc)
 

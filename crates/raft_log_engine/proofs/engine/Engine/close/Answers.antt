@@ -1,12 +1,13 @@
 -- What a close leaves, refused or not.
-use Rattle.std.proofs.Common.{[], ◌++◌}
+use Rattle.std.proofs.Common.{[], ◌++◌, sym, ◌∙◌}
+use Rattle.std.proofs.lemmas.Bool.{false≢true}
 use Rattle.raft_log_disk.proofs.RefusalLemmas.{no_more_then}
 use Rattle.raft_log_engine.specs.Left.{answers_on}
 use Rattle.raft_log_engine.proofs.Clauses.{kept_by, parts}
 use Rattle.raft_log_engine.proofs.Reopened.{all_closed, both_closed, closed_opens, first_closed}
 use Rattle.raft_log_engine.proofs.Since.{closed_front, written_opens}
 use Rattle.raft_log_engine.proofs.Tables.{answered, held_answered}
-use Rattle.raft_log_engine.proofs.Tails.{closed_in_tail}
+use Rattle.raft_log_engine.proofs.Tails.{both_in_tail, first_in_tail}
 use Rattle.raft_log_disk.specs.Cause.{Rises}
 use Rattle.raft_log_pipe.proofs.CausedLemmas.{caused_for, rises_then}
 use Rattle.raft_log_engine.proofs.engine.Engine.close.Goals as goal
@@ -135,6 +136,30 @@ returns-clause-opens_all g c =
 
 -- ---- what an opening that tolerates a torn tail refuses then
 
+pub returns-then-self-clause-opens_in_tail : goal.returns-then-self-clause-opens_in_tail
+returns-then-self-clause-opens_in_tail g c =
+    rw (← c.self.view_is) (λ going alone. absurd (false≢true (sym going ∙ c.if-self.true)))
+
+pub returns-in-Err-clause-opens_in_tail : goal.returns-in-Err-clause-opens_in_tail
+returns-in-Err-clause-opens_in_tail g c =
+    let met = g.met.F.FileSystem g.world.𝓛 g.world.𝓜 g.world.𝓡 ((λ s x. x), (λ x. x), (λ x. x), λ x. x) in
+    let held = (c.self.invariant c.if-self.false).batches in
+    let d = g.F.FileSystem.disk c.self.inside.files in
+    let e = g.F.FileSystem.disk c.close.new.files in
+    rw (← c.self.view_is) (λ going alone.
+    first_in_tail c.self.inside.pipes c.close.new.self d e c.close.result c.close.ensures.call c.close.ensures.other alone held.rewrites held.synced held.unsynced held.held.rewrite held.held.append (met.is_named c.close.new.files))
+
+pub returns-in-Err-close-clause-opens_in_tail : goal.returns-in-Err-close-clause-opens_in_tail
+returns-in-Err-close-clause-opens_in_tail g c =
+    let met = g.met.F.FileSystem g.world.𝓛 g.world.𝓜 g.world.𝓡 ((λ s x. x), (λ x. x), (λ x. x), λ x. x) in
+    let held = (c.self.invariant c.if-self.false).batches in
+    let d = g.F.FileSystem.disk c.self.inside.files in
+    let e = g.F.FileSystem.disk c.close.new.files in
+    let f = g.F.FileSystem.disk c.close-2.new.files in
+    rw (← c.self.view_is) (λ going alone.
+    both_in_tail c.self.inside.pipes c.close.new.self d e c.close.result c.close.ensures.call c.close.ensures.other alone held.rewrites held.synced held.unsynced held.held.rewrite held.held.append
+    c.close-2.new.self f c.close-2.result c.close-2.ensures.call c.close-2.ensures.other (met.is_named c.close-2.new.files))
+
 pub returns-clause-opens_in_tail : goal.returns-clause-opens_in_tail
 returns-clause-opens_in_tail g c =
     let met = g.met.F.FileSystem g.world.𝓛 g.world.𝓜 g.world.𝓡 ((λ s x. x), (λ x. x), (λ x. x), λ x. x) in
@@ -143,5 +168,5 @@ returns-clause-opens_in_tail g c =
     let e = g.F.FileSystem.disk c.close.new.files in
     let f = g.F.FileSystem.disk c.close-2.new.files in
     rw (← c.self.view_is) (λ going alone.
-    closed_in_tail c.self.inside.pipes c.close.new.self c.close-2.new.self d e f _ _ c.in_default.ensures.call c.in_default.ensures.other c.in_default-close.ensures.call c.in_default-close.ensures.other alone
-    held.rewrites held.synced held.unsynced held.held.rewrite held.held.append (met.is_named c.close-2.new.files))
+    both_in_tail c.self.inside.pipes c.close.new.self d e c.close.result c.close.ensures.call c.close.ensures.other alone held.rewrites held.synced held.unsynced held.held.rewrite held.held.append
+    c.close-2.new.self f c.close-2.result c.close-2.ensures.call c.close-2.ensures.other (met.is_named c.close-2.new.files))

@@ -12,7 +12,7 @@ use Rattle.raft_log_engine.specs.Since.{HasWritten, written_batch}
 use Rattle.raft_log_engine.proofs.Clauses.{kept_by, parts, refused}
 use Rattle.raft_log_engine.proofs.Reopened.{refused_opens}
 use Rattle.raft_log_engine.proofs.Seen.{count_seen}
-use Rattle.raft_log_engine.proofs.Tails.{stands_in_tail}
+use Rattle.raft_log_engine.proofs.Tails.{held_in_tail, stands_in_tail}
 use Rattle.raft_log_engine.proofs.Since.{refused_front}
 use Rattle.raft_log_engine.proofs.Taken.{compaction_taken, compaction_unmade}
 use Rattle.raft_log_engine.proofs.Caused.{compaction_cause, compaction_memory_cause}
@@ -124,3 +124,21 @@ returns-in_err-write-clause-goes_on_in_tail g c = c.in_err-write.ensures.goes_on
 
 pub returns-clause-goes_on_in_tail : goal.returns-clause-goes_on_in_tail
 returns-clause-goes_on_in_tail g c = c.in_ok-write.ensures.goes_on_in_tail
+
+-- ---- what an opening that tolerates a torn tail refuses
+
+pub returns-then-self-clause-opens_in_tail : goal.returns-then-self-clause-opens_in_tail
+returns-then-self-clause-opens_in_tail g c =
+    rw (← c.self.view_is) (λ going alone. absurd (false≢true (sym going ∙ c.if-self.true)))
+
+pub returns-in_err-batch-clause-opens_in_tail : goal.returns-in_err-batch-clause-opens_in_tail
+returns-in_err-batch-clause-opens_in_tail g c =
+    let met = g.met.F.FileSystem g.world.𝓛 g.world.𝓜 g.world.𝓡 ((λ s x. x), (λ x. x), (λ x. x), λ x. x) in
+    let held = (c.self.invariant c.if-self.false).batches in
+    rw (← c.self.view_is) (λ going alone. held_in_tail (g.F.FileSystem.disk c.self.inside.files) c.self.inside.pipes held.rewrites held.synced held.unsynced (met.is_named c.self.inside.files) alone held.held.rewrite held.held.append)
+
+pub returns-in_err-write-clause-opens_in_tail : goal.returns-in_err-write-clause-opens_in_tail
+returns-in_err-write-clause-opens_in_tail g c = c.in_err-write.ensures.opens_in_tail
+
+pub returns-clause-opens_in_tail : goal.returns-clause-opens_in_tail
+returns-clause-opens_in_tail g c = c.in_ok-write.ensures.opens_in_tail

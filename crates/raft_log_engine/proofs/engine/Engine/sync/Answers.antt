@@ -118,6 +118,12 @@ pub returns-in-Err-clause-alone : goal.returns-in-Err-clause-alone
 returns-in-Err-clause-alone g c =
     rw (← c.self.view_is) (λ alone. synced_stands c.self.inside.pipes c.sync.new.self (g.F.FileSystem.disk c.self.inside.files) (g.F.FileSystem.disk c.sync.new.files) c.in-Err.ensures.call.same c.in-Err.ensures.call.paths c.in-Err.ensures.call.names c.in-Err.ensures.other alone)
 
+pub returns-in-Err-clause-set : goal.returns-in-Err-clause-set
+returns-in-Err-clause-set g c = rw (← c.self.view_is) c.in-Err.ensures.set
+
+pub returns-clause-set : goal.returns-clause-set
+returns-clause-set g c = rw (← c.self.view_is) c.in_default.ensures.set
+
 pub returns-clause-paths : goal.returns-clause-paths
 returns-clause-paths g c = rw (← c.self.view_is) c.in_default.ensures.call.paths
 
@@ -127,6 +133,19 @@ returns-clause-alone g c =
 
 -- ---- what an opening that tolerates a torn tail refuses
 
+pub returns-then-self-clause-opens_in_tail : goal.returns-then-self-clause-opens_in_tail
+returns-then-self-clause-opens_in_tail g c =
+    rw (← c.self.view_is) (λ going alone. absurd (false≢true (sym going ∙ c.if-self.true)))
+
+pub returns-in-Err-clause-opens_in_tail : goal.returns-in-Err-clause-opens_in_tail
+returns-in-Err-clause-opens_in_tail g c =
+    let met = g.met.F.FileSystem g.world.𝓛 g.world.𝓜 g.world.𝓡 ((λ s x. x), (λ x. x), (λ x. x), λ x. x) in
+    let held = (c.self.invariant c.if-self.false).batches in
+    rw (← c.self.view_is) (λ going alone.
+    held_in_tail (g.F.FileSystem.disk c.sync.new.files) c.sync.new.self held.rewrites held.synced held.unsynced (met.is_named c.sync.new.files)
+    (synced_stands c.self.inside.pipes c.sync.new.self (g.F.FileSystem.disk c.self.inside.files) (g.F.FileSystem.disk c.sync.new.files) c.in-Err.ensures.call.same c.in-Err.ensures.call.paths c.in-Err.ensures.call.names c.in-Err.ensures.other alone)
+    (c.in-Err.ensures.other.holds held.rewrites [] held.held.rewrite) (c.in-Err.ensures.call.err held.synced held.unsynced held.held.append))
+
 pub returns-clause-opens_in_tail : goal.returns-clause-opens_in_tail
 returns-clause-opens_in_tail g c =
     let met = g.met.F.FileSystem g.world.𝓛 g.world.𝓜 g.world.𝓡 ((λ s x. x), (λ x. x), (λ x. x), λ x. x) in
@@ -134,7 +153,7 @@ returns-clause-opens_in_tail g c =
     let d = g.F.FileSystem.disk c.self.inside.files in
     let e = g.F.FileSystem.disk c.sync.new.files in
     let kept = synced_kept d e c.self.inside.pipes c.sync.new.self c.self.inside.tables held.rewrites held.synced held.unsynced held.held (c.in_default.ensures.both held.held.pipes) c.in_default.ensures.call.same c.in_default.ensures.other c.in_default.ensures.call.ok in
-    rw (← c.self.view_is) (λ alone. held_in_tail e c.sync.new.self held.rewrites (held.synced ++ held.unsynced) [] (met.is_named c.sync.new.files)
+    rw (← c.self.view_is) (λ going alone. held_in_tail e c.sync.new.self held.rewrites (held.synced ++ held.unsynced) [] (met.is_named c.sync.new.files)
     (synced_stands c.self.inside.pipes c.sync.new.self d e c.in_default.ensures.call.same c.in_default.ensures.call.paths c.in_default.ensures.call.names c.in_default.ensures.other alone) kept.rewrite kept.append)
 
 -- ---- why it is refused

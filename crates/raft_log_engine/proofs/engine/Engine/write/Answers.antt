@@ -17,7 +17,7 @@ use Rattle.raft_log_engine.proofs.Since.{failed_front, more_opens, more_written,
 use Rattle.raft_log_engine.specs.Reopened.{directories_of_engine}
 use Rattle.raft_log_engine.proofs.Synced.{either_opens, synced_agrees, synced_others, synced_refused, synced_written}
 use Rattle.raft_log_engine.proofs.Tables.{answered}
-use Rattle.raft_log_engine.proofs.Tails.{held_in_tail, more_in_tail, stands_in_tail}
+use Rattle.raft_log_engine.proofs.Tails.{held_in_tail, left_in_tail, more_in_tail, stands_in_tail}
 use Rattle.raft_log_engine.proofs.Taken.{block_fits, done_write, failed_write, refused_write, stopped_write, synced_write, unapplied_write}
 use Rattle.raft_log_engine.proofs.Caused.{failed_cause, refused_cause, stopped_cause, synced_cause, unapplied_cause}
 use Rattle.raft_log_engine.specs.Caused.{IsWriteFault}
@@ -277,19 +277,48 @@ returns-clause-taken g c = λ free. done_write ℕ (g.F.FileSystem.disk) c.args.
 
 -- ---- what an opening that tolerates a torn tail refuses
 
+pub returns-then-self-clause-opens_in_tail : goal.returns-then-self-clause-opens_in_tail
+returns-then-self-clause-opens_in_tail g c =
+    rw (← c.self.view_is) (λ going alone. absurd (false≢true (sym going ∙ c.if-self.true)))
+
 pub returns-then-is_empty-clause-opens_in_tail : goal.returns-then-is_empty-clause-opens_in_tail
 returns-then-is_empty-clause-opens_in_tail g c =
     let met = g.met.F.FileSystem g.world.𝓛 g.world.𝓜 g.world.𝓡 ((λ s x. x), (λ x. x), (λ x. x), λ x. x) in
     let held = (c.self.invariant c.if-self.false).batches in
-    rw (← c.self.view_is) (λ alone. held_in_tail (g.F.FileSystem.disk c.self.inside.files) c.self.inside.pipes held.rewrites held.synced held.unsynced (met.is_named c.self.inside.files) alone held.held.rewrite held.held.append)
+    rw (← c.self.view_is) (λ going alone. held_in_tail (g.F.FileSystem.disk c.self.inside.files) c.self.inside.pipes held.rewrites held.synced held.unsynced (met.is_named c.self.inside.files) alone held.held.rewrite held.held.append)
+
+pub returns-in_err-len-clause-opens_in_tail : goal.returns-in_err-len-clause-opens_in_tail
+returns-in_err-len-clause-opens_in_tail g c =
+    let met = g.met.F.FileSystem g.world.𝓛 g.world.𝓜 g.world.𝓡 ((λ s x. x), (λ x. x), (λ x. x), λ x. x) in
+    let held = (c.self.invariant c.if-self.false).batches in
+    rw (← c.self.view_is) (λ going alone. held_in_tail (g.F.FileSystem.disk c.self.inside.files) c.self.inside.pipes held.rewrites held.synced held.unsynced (met.is_named c.self.inside.files) alone held.held.rewrite held.held.append)
+
+pub returns-in_err-sync-clause-opens_in_tail : goal.returns-in_err-sync-clause-opens_in_tail
+returns-in_err-sync-clause-opens_in_tail g c = c.in_err-sync.ensures.opens_in_tail
 
 pub returns-then-sync-clause-opens_in_tail : goal.returns-then-sync-clause-opens_in_tail
-returns-then-sync-clause-opens_in_tail g c = λ alone. c.in_ok-sync.ensures.opens_in_tail alone
+returns-then-sync-clause-opens_in_tail g c = c.in_ok-sync.ensures.opens_in_tail
+
+pub returns-in-Err-clause-opens_in_tail : goal.returns-in-Err-clause-opens_in_tail
+returns-in-Err-clause-opens_in_tail g c =
+    let met = g.met.F.FileSystem g.world.𝓛 g.world.𝓜 g.world.𝓡 ((λ s x. x), (λ x. x), (λ x. x), λ x. x) in
+    let held = (c.self.invariant c.if-self.false).batches in
+    rw (← c.self.view_is) (λ going alone.
+    left_in_tail c.self.inside.pipes c.append_batch.new.pipes (g.F.FileSystem.disk c.self.inside.files) (g.F.FileSystem.disk c.append_batch.new.files) held.rewrites held.synced held.unsynced (met.is_named c.append_batch.new.files)
+    (record { paths = c.in-Err.ensures.paths; other = c.in-Err.ensures.other }) alone held.held.rewrite held.held.append c.in-Err.ensures.torn)
+
+pub returns-in-Err-apply-clause-opens_in_tail : goal.returns-in-Err-apply-clause-opens_in_tail
+returns-in-Err-apply-clause-opens_in_tail g c =
+    let met = g.met.F.FileSystem g.world.𝓛 g.world.𝓜 g.world.𝓡 ((λ s x. x), (λ x. x), (λ x. x), λ x. x) in
+    rw (← c.self.view_is) (λ going alone. more_in_tail (g.F.FileSystem.disk) (parts c.self.inside.files c.self.inside.pipes c.self.inside.tables c.self.inside.is_stopped c.self.inside.wrote_unsynced c.self.inside.blocks.reads) (c.self.invariant c.if-self.false).batches c.append_batch.new.files c.append_batch.new.pipes c.args.sync c.in-Ok.written.id.seq c.prepare.new.batch.items
+    (met.is_named c.append_batch.new.files)
+    (stand_on c.self.inside.pipes c.append_batch.new.pipes (g.F.FileSystem.disk c.self.inside.files) (g.F.FileSystem.disk c.append_batch.new.files) (record { paths = c.in-Ok.ensures.paths; other = c.in-Ok.ensures.other }) alone (c.in-Ok.ensures.alone alone.append))
+    c.in-Ok.ensures.other c.in-Ok.ensures.ok)
 
 pub returns-clause-opens_in_tail : goal.returns-clause-opens_in_tail
 returns-clause-opens_in_tail g c =
     let met = g.met.F.FileSystem g.world.𝓛 g.world.𝓜 g.world.𝓡 ((λ s x. x), (λ x. x), (λ x. x), λ x. x) in
-    rw (← c.self.view_is) (λ alone. more_in_tail (g.F.FileSystem.disk) (parts c.self.inside.files c.self.inside.pipes c.self.inside.tables c.self.inside.is_stopped c.self.inside.wrote_unsynced c.self.inside.blocks.reads) (c.self.invariant c.if-self.false).batches c.append_batch.new.files c.append_batch.new.pipes c.args.sync c.in-Ok.written.id.seq c.prepare.new.batch.items
+    rw (← c.self.view_is) (λ going alone. more_in_tail (g.F.FileSystem.disk) (parts c.self.inside.files c.self.inside.pipes c.self.inside.tables c.self.inside.is_stopped c.self.inside.wrote_unsynced c.self.inside.blocks.reads) (c.self.invariant c.if-self.false).batches c.append_batch.new.files c.append_batch.new.pipes c.args.sync c.in-Ok.written.id.seq c.prepare.new.batch.items
     (met.is_named c.append_batch.new.files)
     (stand_on c.self.inside.pipes c.append_batch.new.pipes (g.F.FileSystem.disk c.self.inside.files) (g.F.FileSystem.disk c.append_batch.new.files) (record { paths = c.in-Ok.ensures.paths; other = c.in-Ok.ensures.other }) alone (c.in-Ok.ensures.alone alone.append))
     c.in-Ok.ensures.other c.in-Ok.ensures.ok)

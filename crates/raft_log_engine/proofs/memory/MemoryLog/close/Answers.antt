@@ -54,6 +54,9 @@ returns-in-Err-clause-as_read c =
     rw (← c.self.view_is) (λ content genuine found.
     inl (going, found_closed disk_in m.settings m.engine (disk_in c.in-Err.refused.files) inv.directories (c.in-Err.ensures.opens (inv.sound going) (inv.alone going)) content (found_as_read m.settings c.in-Err.refused.files content genuine found)))
 
+pub returns-in-Err-clause-cause : goal.returns-in-Err-clause-cause
+returns-in-Err-clause-cause c = rw (← c.self.view_is) (λ going. c.in-Err.ensures.cause)
+
 pub returns-in-Ok-clause-opens_in_tail : goal.returns-in-Ok-clause-opens_in_tail
 returns-in-Ok-clause-opens_in_tail c =
     let inv = c.self.invariant in
@@ -62,5 +65,10 @@ returns-in-Ok-clause-opens_in_tail c =
     rw (← c.self.view_is) (subst (λ (l : List Text). OpensInTail l (disk_in c.in-Ok.files) m.engine.pipes) inv.directories
     (c.in-Ok.ensures.opens_in_tail (inv.sound going).goes_on (inv.alone going)))
 
-pub returns-in-Err-clause-cause : goal.returns-in-Err-clause-cause
-returns-in-Err-clause-cause c = rw (← c.self.view_is) (λ going. c.in-Err.ensures.cause)
+pub returns-in-Err-clause-opens_in_tail : goal.returns-in-Err-clause-opens_in_tail
+returns-in-Err-clause-opens_in_tail c =
+    let inv = c.self.invariant in
+    let going = c.if-self.false in
+    let m = c.self.inside in
+    rw (← c.self.view_is) (subst (λ (l : List Text). OpensInTail l (disk_in c.in-Err.refused.files) m.engine.pipes) inv.directories
+    (c.in-Err.ensures.opens_in_tail (inv.sound going).goes_on (inv.alone going)))

@@ -1,9 +1,8 @@
 -- The files as they read are one of their images.
-use Rattle.std.proofs.Common.{List, inr, subst}
+use Rattle.std.proofs.Common.{inr, subst, sym}
 use Rattle.raft_log_disk.specs.declared.memory.MemoryFileSystem.{MemoryFileSystem}
 use Rattle.raft_log_disk.specs.MemorySystem.{disk_in}
-use Rattle.raft_log_disk.specs.Text.{Text}
-use Rattle.raft_log_engine.specs.Log.{MayBeFound}
+use Rattle.raft_log_engine.specs.Log.{MayBeFound, main_directory}
 use Rattle.raft_log_engine.specs.Reopened.{OpensInTail}
 use Rattle.raft_log_engine.proofs.Logs.{found_as_read}
 use Rattle.raft_log_engine.proofs.memory.MemoryLog.into_files.Goals as goal
@@ -14,7 +13,5 @@ returns-clause-as_read c =
 
 pub returns-clause-opens_in_tail : goal.returns-clause-opens_in_tail
 returns-clause-opens_in_tail c =
-    let inv = c.self.invariant in
     let m = c.self.inside in
-    rw (← c.self.view_is) (λ going. subst (λ (l : List Text). OpensInTail l (disk_in c.abandon.result) m.engine.pipes) inv.directories
-    (c.abandon.ensures.opens_in_tail (inv.sound going).goes_on (inv.alone going)))
+    rw (← c.self.view_is) (subst (λ (f : MemoryFileSystem). OpensInTail (main_directory m.settings) (disk_in f) m.engine.pipes) (sym c.abandon.ensures.files) c.self.invariant.in_tail)

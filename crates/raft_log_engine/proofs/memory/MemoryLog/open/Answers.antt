@@ -16,6 +16,12 @@ use Rattle.raft_log_engine.specs.Opening.{CantBeOpened, HasHolesIn, IsFoundAgain
 use Rattle.raft_log_engine.specs.Reopened.{OpensInTail}
 use Rattle.raft_log_engine.proofs.Corrupt.{along}
 use Rattle.raft_log_engine.proofs.Logs.{leaves_only}
+use Rattle.std.proofs.Common.{Option}
+use Rattle.raft_log_disk.specs.MemorySystem.{is_bounded_in, meter_in}
+use Rattle.raft_log_files.specs.Settings.{settings_fault, settings_of}
+use Rattle.raft_log_files.specs.declared.error.OtherFault.{OtherFault}
+use Rattle.raft_log_engine.specs.Unopened.{IsOpeningFault}
+use Rattle.raft_log_engine.proofs.Unopened.{free_fault}
 use Rattle.raft_log_engine.proofs.memory.MemoryLog.open.Goals as goal
 
 pub invariant_of-result : goal.invariant_of-result
@@ -23,6 +29,8 @@ invariant_of-result c = record {
   directories = c.in-Ok-open_alone.ensures.directories ∙ c.in-Ok.ensures.directories;
   sound = λ on. c.in-Ok-open_alone.ensures.sound;
   alone = λ on. c.in-Ok-open_alone.ensures.alone (c.in-Ok.ensures.once (disk_in c.args.files.files).names);
+  in_tail = subst (λ (l : List Text). OpensInTail l (disk_in c.in-Ok-open_alone.engine.files) c.in-Ok-open_alone.engine.pipes) (c.in-Ok-open_alone.ensures.directories ∙ c.in-Ok.ensures.directories)
+      (c.in-Ok-open_alone.ensures.opens_in_tail (c.in-Ok-open_alone.ensures.alone (c.in-Ok.ensures.once (disk_in c.args.files.files).names)));
 }
 
 pub returns-in-Ok-open_alone-clause-leaves : goal.returns-in-Ok-open_alone-clause-leaves
@@ -67,3 +75,20 @@ returns-in-Ok-open_alone-clause-set c =
 pub returns-in-Ok-open_alone-clause-holes : goal.returns-in-Ok-open_alone-clause-holes
 returns-in-Ok-open_alone-clause-holes c =
     subst (λ (m : RecoveryMode). HasHolesIn m (disk_in c.in-Ok-open_alone.engine.files) c.in-Ok-open_alone.engine.pipes) c.in-Ok.ensures.mode c.in-Ok-open_alone.ensures.holes
+
+-- ---- why it is refused
+
+pub returns-in-Err-clause-cause : goal.returns-in-Err-clause-cause
+returns-in-Err-clause-cause c =
+    let d = disk_in c.args.files.files in
+    let left = disk_in c.in-Err.field-0.files in
+    let free = is_bounded_in c.args.files.files in
+    let a = meter_in c.args.files.files in
+    let b = meter_in c.in-Err.field-0.files in
+    subst (λ (o : Option OtherFault). IsOpeningFault o c.args.files.settings.recovery_mode (main_directory c.args.files.settings) d left free a b c.in-Err.field-0.fault) c.in-Ok.ensures.fault
+    (along (λ m l. IsOpeningFault (settings_fault (settings_of c.in-Ok.config)) m l d left free a b c.in-Err.field-0.fault) c.in-Ok.ensures.mode c.in-Ok.ensures.directories c.in-Err.ensures.cause)
+
+pub returns-in-Err-clause-taken : goal.returns-in-Err-clause-taken
+returns-in-Err-clause-taken c = λ free.
+    free_fault c.args.files.settings.recovery_mode (main_directory c.args.files.settings) (disk_in c.args.files.files) (disk_in c.in-Err.field-0.files) (is_bounded_in c.args.files.files) (meter_in c.args.files.files)
+    (meter_in c.in-Err.field-0.files) (settings_fault (settings_of c.args.files.settings)) free c.in-Err.field-0.fault (returns-in-Err-clause-cause c)

@@ -1,8 +1,9 @@
 -- A write keeps what the log says of its files; a refused one stops it.
-use Rattle.std.proofs.Common.{◌∙◌, refl}
+use Rattle.std.proofs.Common.{◌∙◌, refl, sym}
+use Rattle.std.proofs.lemmas.Bool.{false≢true}
 use Rattle.raft_log_disk.specs.MemorySystem.{disk_in}
 use Rattle.raft_log_engine.proofs.Reopened.{same_directories}
-use Rattle.raft_log_engine.proofs.Logs.{is_refused, is_written, refused_others, written_others}
+use Rattle.raft_log_engine.proofs.Logs.{is_refused, is_written, refused_others, written_in_main, written_others}
 use Rattle.raft_log_engine.proofs.memory.MemoryLogContentLog.write.Goals as goal
 
 pub invariant_of-self : goal.invariant_of-self
@@ -10,6 +11,17 @@ invariant_of-self c = record {
   directories = same_directories c.self.inside.engine.pipes.append c.write.new.self.pipes.append c.in-Ok.ensures.paths ∙ c.self.invariant.directories;
   sound = λ fresh. c.in-Ok.ensures.sound (c.self.invariant.sound fresh) refl;
   alone = λ fresh. c.in-Ok.ensures.alone (c.self.invariant.alone fresh);
+  in_tail = written_in_main disk_in c.self.inside.settings c.self.inside.engine c.write.new.self c.self.invariant.directories c.in-Ok.ensures.paths
+      (c.in-Ok.ensures.opens_in_tail (c.self.invariant.sound c.if-self.false).goes_on (c.self.invariant.alone c.if-self.false));
+}
+
+pub invariant_of-self-in-Err : goal.invariant_of-self-in-Err
+invariant_of-self-in-Err c = record {
+  directories = same_directories c.self.inside.engine.pipes.append c.write.new.self.pipes.append c.in-Err.ensures.paths ∙ c.self.invariant.directories;
+  sound = λ fresh. absurd (false≢true (sym fresh));
+  alone = λ fresh. absurd (false≢true (sym fresh));
+  in_tail = written_in_main disk_in c.self.inside.settings c.self.inside.engine c.write.new.self c.self.invariant.directories c.in-Err.ensures.paths
+      (c.in-Err.ensures.opens_in_tail (c.self.invariant.sound c.if-self.false).goes_on (c.self.invariant.alone c.if-self.false));
 }
 
 pub returns-in-Ok-clause-ok : goal.returns-in-Ok-clause-ok

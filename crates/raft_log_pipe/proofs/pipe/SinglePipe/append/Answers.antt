@@ -1,11 +1,11 @@
 use Rattle.raft_log_disk.proofs.CauseLemmas.{at_err}
 use Rattle.raft_log_pipe.specs.Alone.{IsAlone, IsNearlyAlone}
 use Rattle.raft_log_pipe.proofs.ExitLemmas.{again_err, again_ok, put_after, still_before, unless_no_space, unput_after, unput_from}
-use Rattle.std.proofs.Common.{refl}
+use Rattle.std.proofs.Common.{refl, Err}
 use Rattle.raft_log_pipe.proofs.BlockLemmas.{after_files, same_files, stands_after, stands_ok, then_files}
 use Rattle.raft_log_pipe.proofs.AloneLemmas.{alone_on, err_after, nearly_on, ok_after}
 use Rattle.raft_log_pipe.proofs.OthersLemmas.{others_on}
-use Rattle.raft_log_disk.proofs.RefusalLemmas.{no_more_then, still_free}
+use Rattle.raft_log_disk.proofs.RefusalLemmas.{lacks_then, no_more_then, still_free}
 use Rattle.std.proofs.Common.{◌≡◌, ◌⊎◌, inr, ap, ◌∙◌}
 use Rattle.raft_log_disk.specs.Disk.{Disk}
 use Rattle.raft_log_files.specs.Error.{io_error}
@@ -14,10 +14,12 @@ use Rattle.raft_log_pipe.specs.declared.pipe.SinglePipe.{SinglePipe}
 use Rattle.raft_log_pipe.specs.Taken.{IsBarred, IsFull, IsTooLarge, IsUnmade, IsUnnumbered}
 use Rattle.raft_log_pipe.proofs.TakenLemmas.{large_before, no_space_large, same_next, still_taken, taken_io, taken_more, told_error, unmade_before, unnumbered_before}
 use Rattle.std.proofs.Common.{ℕ}
-use Rattle.raft_log_disk.specs.Cause.{Rises}
+use Rattle.raft_log_disk.specs.Cause.{Lacks, Rises}
 use Rattle.raft_log_files.specs.declared.error.Error.{Error}
 use Rattle.raft_log_pipe.specs.Caused.{BeginsFiles, IsAppendFault, LacksNumber, LacksPlace}
 use Rattle.raft_log_pipe.proofs.CausedLemmas.{append_behind, begins_first, caused_for, rises_then, seq_on, told_cause, told_io}
+use Rattle.std.proofs.lemmas.Result.{on_err_weaker}
+use Rattle.raft_log_pipe.proofs.TornLemmas.{torn_then}
 use Rattle.raft_log_pipe.proofs.pipe.SinglePipe.append.Goals as goal
 
 pub returns-in_err-make_room-clause-err : goal.returns-in_err-make_room-clause-err
@@ -138,10 +140,10 @@ returns-in_err-make_room-clause-cause g c =
     let d = g.F.FileSystem.disk c.args.files.now in
     let a = g.F.FileSystem.meter c.args.files.now in
     let b = g.F.FileSystem.meter c.make_room.new.files in
-    let before : Rises 0 a b = c.in_err-make_room.ensures.later.counts in
+    let before : Lacks 0 a b = c.in_err-make_room.ensures.later.spaces in
     told_cause c.from_residual.result c.in_err-make_room.field-0.0 (λ (e : Error). IsAppendFault p d a b e) c.from_residual.ensures.1
     (caused_for (Rises 1 a b) ⊥ (IsFull p × IsUnnumbered p) (IsFull p × LacksPlace p d 1)
-    (Rises 1 a b) (Rises 2 a b) ((n : ℕ) × BeginsFiles (IsFull p) a b n × LacksNumber p n) ((n : ℕ) × BeginsFiles (IsFull p) a b n × LacksPlace p d n) c.in_err-make_room.field-0.0
+    (Rises 1 a b) (Lacks 2 a b) ((n : ℕ) × BeginsFiles (IsFull p) a b n × LacksNumber p n) ((n : ℕ) × BeginsFiles (IsFull p) a b n × LacksPlace p d n) c.in_err-make_room.field-0.0
     (λ x. x) (λ x. absurd x) (λ (full, x). (1, begins_first (IsFull p) a b full before, x)) (λ (full, x). (1, begins_first (IsFull p) a b full before, x)) c.in_err-make_room.ensures.cause)
 
 pub returns-in-Err-clause-cause : goal.returns-in-Err-clause-cause
@@ -152,7 +154,7 @@ returns-in-Err-clause-cause g c =
     let b = g.F.FileSystem.meter c.make_room.new.files in
     let e = g.F.FileSystem.meter c.put.new.files in
     let place : Type 0 = (n : ℕ) × BeginsFiles (IsFull p) a e n × LacksPlace p d n in
-    told_io FileBlockHandle (Rises 1 a e) (Rises 2 a e) ((n : ℕ) × BeginsFiles (IsFull p) a e n × LacksNumber p n) place c.from.result c.in-Err.fault c.from.ensures
+    told_io FileBlockHandle (Rises 1 a e) (Lacks 2 a e) ((n : ℕ) × BeginsFiles (IsFull p) a e n × LacksNumber p n) place c.from.result c.in-Err.fault c.from.ensures
     (still_taken FileBlockHandle FileBlockHandle ⊥ (Rises 1 b e) place (Rises 1 a e) c.in-Err.fault (λ x. absurd x) (rises_then 0 1 a b e c.in_ok-make_room.ensures.later.counts) c.in-Err.ensures.cause)
 
 pub returns-in-Err-NoSpace-clause-cause : goal.returns-in-Err-NoSpace-clause-cause
@@ -168,5 +170,23 @@ returns-in-Err-NoSpace-clause-cause g c =
     let i = g.F.FileSystem.meter c.put_again.new.files in
     append_behind p q d y a e i c.put_again.result (seq_on p m q c.in_ok-make_room.ensures.begins c.in-Err-NoSpace.ensures.same.0) (c.in-Err-NoSpace.ensures.others.directories ∙ c.in_ok-make_room.ensures.others.directories)
     (c.in-Err-NoSpace.ensures.paths ∙ c.in_ok-make_room.ensures.paths) (c.in-Err-NoSpace.ensures.same.2 ∙ c.in_ok-make_room.ensures.queue)
-    (rises_then 0 1 a b e c.in_ok-make_room.ensures.later.counts (no_space_large FileBlockHandle ⊥ (Rises 1 b e) c.in-Err-NoSpace.field-0 c.in-Err-NoSpace.field-0-is c.in-Err-NoSpace.ensures.cause))
+    (rises_then 0 0 a b e c.in_ok-make_room.ensures.later.counts c.in-Err-NoSpace.ensures.later.counts)
+    (lacks_then 0 1 a b e c.in_ok-make_room.ensures.later.spaces (c.in-Err-NoSpace.ensures.lacks (ap Err c.in-Err-NoSpace.field-0-is)))
     c.put_again.ensures.cause
+
+-- ---- which file may be torn
+
+pub returns-in_err-make_room-clause-torn : goal.returns-in_err-make_room-clause-torn
+returns-in_err-make_room-clause-torn g c = at_err _ _ c.in_err-make_room.ensures.torn
+
+pub returns-in-Err-clause-torn : goal.returns-in-Err-clause-torn
+returns-in-Err-clause-torn g c =
+    torn_then c.args.self.now c.make_room.new.self c.put.new.self (g.F.FileSystem.disk c.args.files.now) (g.F.FileSystem.disk c.make_room.new.files) (g.F.FileSystem.disk c.put.new.files)
+    c.in_ok-make_room.ensures.alone c.in_ok-make_room.ensures.ok c.in-Err.ensures.torn
+
+pub returns-in-Err-NoSpace-clause-torn : goal.returns-in-Err-NoSpace-clause-torn
+returns-in-Err-NoSpace-clause-torn g c = on_err_weaker c.put_again.result
+    (torn_then c.args.self.now c.put.new.self c.put_again.new.self (g.F.FileSystem.disk c.args.files.now) (g.F.FileSystem.disk c.put.new.files) (g.F.FileSystem.disk c.put_again.new.files)
+    (λ alone. alone_on c.make_room.new.self c.put.new.self (g.F.FileSystem.disk c.make_room.new.files) (g.F.FileSystem.disk c.put.new.files) c.in-Err-NoSpace.ensures.same c.in-Err-NoSpace.ensures.paths c.in-Err-NoSpace.ensures.names (c.in_ok-make_room.ensures.alone alone))
+    (still_before c.args.self.now c.make_room.new.self c.put.new.self (g.F.FileSystem.disk c.args.files.now) (g.F.FileSystem.disk c.make_room.new.files) (g.F.FileSystem.disk c.put.new.files) c.in_ok-make_room.ensures.ok
+    (unless_no_space c.in-Err-NoSpace.field-0 _ c.in-Err-NoSpace.field-0-is c.in-Err-NoSpace.ensures.unwritten))) c.put_again.ensures.torn

@@ -1,7 +1,7 @@
 use Rattle.std.proofs.Common.{Ok, Err, ap}
 use Rattle.raft_log_disk.specs.Disk.{Disk}
 use Rattle.raft_log_disk.proofs.CauseLemmas.{at_err}
-use Rattle.raft_log_pipe.proofs.ChangeLemmas.{closed_changes, closed_ended, closed_holds, pipe_on, unclosed_leaves}
+use Rattle.raft_log_pipe.proofs.ChangeLemmas.{closed_changes, closed_ended, closed_holds, pipe_on, unclosed_holds}
 use Rattle.raft_log_pipe.proofs.OthersLemmas.{last_others}
 use Rattle.raft_log_disk.specs.Disk.{IsNoFile}
 use Rattle.raft_log_pipe.proofs.TakenLemmas.{exit_io, last_there, still_taken}
@@ -15,7 +15,7 @@ returns-in_err-close-clause-pipe g c =
     (closed_changes c.args.self.now.writer _ _ (Err c.in_err-close.field-0.0) c.in_err-close.ensures.closes)
 
 pub returns-in_err-close-clause-err : goal.returns-in_err-close-clause-err
-returns-in_err-close-clause-err g c = at_err _ _ (unclosed_leaves c.args.self.now _ _ c.in_err-close.field-0.0 c.requires c.in_err-close.ensures.closes)
+returns-in_err-close-clause-err g c = at_err _ _ (unclosed_holds c.args.self.now _ _ _ c.in_err-close.field-0.0 c.requires c.in_err-close.ensures.closes c.in_err-close.ensures.same.1)
 
 pub returns-clause-pipe : goal.returns-clause-pipe
 returns-clause-pipe g c =

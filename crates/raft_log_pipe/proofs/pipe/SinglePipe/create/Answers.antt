@@ -5,14 +5,13 @@ use Rattle.std.specs.declared.alloc.Global.{Global}
 use Rattle.raft_log_disk.specs.Cause.{IsTaken}
 use Rattle.raft_log_disk.specs.Disk.{Disk, HasDirectory, IsNoFile, IsNoNewFile}
 use Rattle.raft_log_disk.specs.Text.{Text}
-use Rattle.raft_log_disk.proofs.RefusalLemmas.{still_free}
+use Rattle.raft_log_disk.proofs.RefusalLemmas.{no_more_then, still_free}
 use Rattle.raft_log_file.specs.declared.writer.LogFileWriter.{LogFileWriter}
 use Rattle.raft_log_pipe.specs.declared.file.File.{File}
 use Rattle.raft_log_pipe.specs.declared.pipe.SinglePipe.{SinglePipe}
 use Rattle.raft_log_pipe.specs.Taken.{main_path}
 use Rattle.raft_log_pipe.proofs.TakenLemmas.{exit_io, made_there, still_taken}
 use Rattle.raft_log_pipe.specs.Alone.{IsMadeIn}
-use Rattle.raft_log_records.specs.declared.file_id.FileId.{FileId}
 use Rattle.raft_log_pipe.specs.Pipe.{IsLast, IsPlain, id_of}
 use Rattle.raft_log_pipe.proofs.NextLemmas.{begun_changes, begun_short}
 use Rattle.raft_log_pipe.proofs.ExitLemmas.{first_holds, first_pipe, last_for}
@@ -120,3 +119,6 @@ returns-in_err-writer-clause-cause g c =
     exit_cause (Unit {0}) (Rises 1 a e) ⊥ ⊥ lacks c.from_residual-in_err-writer.result c.in_err-writer.field-0.0 c.from_residual-in_err-writer.ensures.1
     (still_taken LogFileWriter (Unit {0}) (IsNoFile (g.F.FileSystem.disk c.new_file.new.files) c.in_ok-file.file.handle.0) (Rises 1 b e) lacks (Rises 1 a e) c.in_err-writer.field-0.0
     (λ none. absurd (made_there _ _ _ c.in_ok-file.file c.in_ok-file.ensures.created none)) (rises_then 0 1 a b e c.in_ok-file.ensures.later.counts) c.in_err-writer.ensures.cause)
+
+pub returns-in_err-writer-clause-later : goal.returns-in_err-writer-clause-later
+returns-in_err-writer-clause-later g c = no_more_then c.in_ok-file.ensures.later c.in_err-writer.ensures.later

@@ -1,6 +1,5 @@
 use Rattle.std.proofs.Common.{◌^◌, ◌<◌, arith}
 use Rattle.std.specs.Prelude.{Result, Ok, Err, OnOk}
-use Rattle.raft_log_pipe.proofs.PipeLemmas.{holds_leaves}
 use Rattle.std.proofs.Common.{refl}
 use Rattle.raft_log_pipe.proofs.OthersLemmas.{same_others}
 use Rattle.raft_log_disk.specs.Cause.{Rises}
@@ -18,7 +17,7 @@ returns-clause-number g c =
     on_ok (Err x) p = tt
 
 pub returns-then-not-is_file_seq-clause-err : goal.returns-then-not-is_file_seq-clause-err
-returns-then-not-is_file_seq-clause-err g c = λ s u h. holds_leaves c.args.self.now.queue c.args.self.now.older.items c.args.self.now.active c.args.self.now.writer.offset (g.F.FileSystem.disk c.args.files.now) s u h
+returns-then-not-is_file_seq-clause-err g c = λ s u h. h
 
 pub returns-then-not-is_file_seq-clause-others : goal.returns-then-not-is_file_seq-clause-others
 returns-then-not-is_file_seq-clause-others g c =

@@ -1,15 +1,17 @@
-use Rattle.raft_log_pipe.proofs.ExitLemmas.{then_holds, then_leaves}
+use Rattle.raft_log_pipe.proofs.ExitLemmas.{still_leaves, then_holds, then_leaves}
 use Rattle.raft_log_pipe.proofs.GiveUpLemmas.{ended_leaves}
 use Rattle.raft_log_pipe.proofs.AloneLemmas.{alone_on, nearly, nearly_on}
 use Rattle.raft_log_pipe.proofs.OthersLemmas.{others_on}
 use Rattle.raft_log_disk.proofs.RefusalLemmas.{no_more_then}
-use Rattle.std.proofs.Common.{◌≡◌, ap, arith}
+use Rattle.std.proofs.Common.{◌≡◌, ◌++◌, ap, arith}
 use Rattle.raft_log_disk.specs.Cause.{Rises}
 use Rattle.raft_log_pipe.specs.declared.file.File.{File}
 use Rattle.raft_log_pipe.specs.Caused.{LacksNumber, LacksPlace}
 use Rattle.raft_log_pipe.specs.Taken.{IsUnnumbered}
 use Rattle.raft_log_pipe.proofs.TakenLemmas.{still_taken}
 use Rattle.raft_log_pipe.proofs.CausedLemmas.{caused_for, place_before, rises_then, told_second}
+use Rattle.std.proofs.Common.{inl, inr}
+use Rattle.raft_log_pipe.proofs.TornLemmas.{held_torn, torn_next, torn_then}
 use Rattle.raft_log_pipe.proofs.pipe.SinglePipe.give_up.Goals as goal
 
 pub returns-in-Ok-clause-leaves : goal.returns-in-Ok-clause-leaves
@@ -63,3 +65,30 @@ returns-in-Err-go_on-clause-cause g c =
     (still_taken (Unit {0}) (Unit {0}) (LacksPlace q y 1) (Rises 1 b e) (LacksPlace p d 1) (Rises 1 a e) c.in-Err-go_on.fault
     (place_before p q d y 0 1 c.in_default.ensures.others.directories c.in_default.ensures.paths c.in_default.ensures.same.2 (omega (arith, same)))
     (rises_then 0 1 a b e c.in_default.ensures.later.counts) c.in-Err-go_on.ensures.cause)
+
+pub returns-in-Ok-clause-later : goal.returns-in-Ok-clause-later
+returns-in-Ok-clause-later g c = no_more_then c.in_default.ensures.later c.in-Ok.ensures.later
+
+-- ---- which file may be torn
+
+pub returns-in-Err-clause-leaves : goal.returns-in-Err-clause-leaves
+returns-in-Err-clause-leaves g c =
+    still_leaves c.args.self.now c.finish.new.self (g.F.FileSystem.disk c.args.files.now) (g.F.FileSystem.disk c.finish.new.files) c.in-Err.ensures.err
+
+pub returns-in-Err-clause-torn : goal.returns-in-Err-clause-torn
+returns-in-Err-clause-torn g c =
+    torn_then c.args.self.now c.finish.new.self c.finish.new.self (g.F.FileSystem.disk c.args.files.now) (g.F.FileSystem.disk c.finish.new.files) (g.F.FileSystem.disk c.finish.new.files)
+    (λ alone. alone_on c.args.self.now c.finish.new.self (g.F.FileSystem.disk c.args.files.now) (g.F.FileSystem.disk c.finish.new.files) c.in-Err.ensures.same c.in-Err.ensures.paths c.in-Err.ensures.names alone)
+    (λ s u h. inl (c.in-Err.ensures.err s u h)) (held_torn c.finish.new.self (g.F.FileSystem.disk c.finish.new.files))
+
+pub returns-in-Ok-clause-torn : goal.returns-in-Ok-clause-torn
+returns-in-Ok-clause-torn g c =
+    torn_then c.args.self.now c.go_on.new.self c.go_on.new.self (g.F.FileSystem.disk c.args.files.now) (g.F.FileSystem.disk c.go_on.new.files) (g.F.FileSystem.disk c.go_on.new.files)
+    (λ alone. c.in-Ok.ensures.alone (alone_on c.args.self.now c.finish.new.self (g.F.FileSystem.disk c.args.files.now) (g.F.FileSystem.disk c.finish.new.files) c.in_default.ensures.same c.in_default.ensures.paths c.in_default.ensures.names alone))
+    (λ s u h. inr (c.in-Ok.ensures.ok (s ++ u) (c.in_default.ensures.ok s u h))) (held_torn c.go_on.new.self (g.F.FileSystem.disk c.go_on.new.files))
+
+pub returns-in-Err-go_on-clause-torn : goal.returns-in-Err-go_on-clause-torn
+returns-in-Err-go_on-clause-torn g c =
+    torn_next c.args.self.now c.finish.new.self c.go_on.new.self (g.F.FileSystem.disk c.args.files.now) (g.F.FileSystem.disk c.finish.new.files) (g.F.FileSystem.disk c.go_on.new.files)
+    (λ alone. alone_on c.args.self.now c.finish.new.self (g.F.FileSystem.disk c.args.files.now) (g.F.FileSystem.disk c.finish.new.files) c.in_default.ensures.same c.in_default.ensures.paths c.in_default.ensures.names alone)
+    c.in_default.ensures.ok c.in-Err-go_on.ensures.torn

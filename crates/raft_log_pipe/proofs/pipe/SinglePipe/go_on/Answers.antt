@@ -1,15 +1,16 @@
-use Rattle.std.proofs.Common.{◌-◌, ◌<◌, List, length, map, sym, ap, subst, ◌∙◌}
+use Rattle.std.proofs.Common.{◌-◌, ◌<◌, List, [], length, map, sym, ap, subst, ◌∙◌}
 use Rattle.std.specs.Prelude.{String, Ok, Err}
 use Rattle.std.specs.String.{string_bytes}
 use Rattle.std.specs.declared.alloc.Global.{Global}
 use Rattle.raft_log_disk.specs.Disk.{Disk}
 use Rattle.raft_log_disk.proofs.CauseLemmas.{at_err}
 use Rattle.raft_log_files.specs.FileName.{IsFileSeq}
-use Rattle.raft_log_pipe.specs.Alone.{IsMadeIn}
-use Rattle.raft_log_pipe.specs.Pipe.{IsLast, IsPlain}
+use Rattle.raft_log_pipe.specs.Alone.{IsAlone, IsMadeIn}
+use Rattle.raft_log_pipe.specs.Pipe.{Holds, IsLast, IsPlain, Numbered}
+use Rattle.raft_log_pipe.specs.Torn.{IsTornAtEnd}
 use Rattle.raft_log_pipe.proofs.ExitLemmas.{last_for, pushed_holds, refused_leaves, refused_writer, unpushed_leaves}
 use Rattle.raft_log_pipe.proofs.NextLemmas.{begun_changes, made_begun, made_leaves, made_writer, next_pipe}
-use Rattle.raft_log_pipe.proofs.AloneLemmas.{next_alone, refused_nearly, unbegun_nearly, unpushed_nearly}
+use Rattle.raft_log_pipe.proofs.AloneLemmas.{next_alone, refused_nearly, unbegun_nearly, unpushed_nearly, with_older}
 use Rattle.raft_log_pipe.proofs.OthersLemmas.{made_others, refused_others}
 use Rattle.raft_log_disk.specs.Disk.{IsNoFile}
 use Rattle.raft_log_disk.proofs.RefusalLemmas.{no_more_then, still_free}
@@ -21,6 +22,7 @@ use Rattle.raft_log_pipe.specs.declared.file.File.{File}
 use Rattle.std.proofs.Common.{refl}
 use Rattle.raft_log_pipe.specs.Caused.{LacksDirectory, LacksPlace}
 use Rattle.raft_log_pipe.proofs.CausedLemmas.{lacks_before, rises_then}
+use Rattle.raft_log_pipe.proofs.TornLemmas.{refused_torn, unbegun_torn, unpushed_torn}
 use Rattle.raft_log_pipe.proofs.pipe.SinglePipe.go_on.Goals as goal
 
 pub returns-in_err-file-clause-writer : goal.returns-in_err-file-clause-writer
@@ -133,3 +135,28 @@ returns-in_err-writer-clause-cause g c =
     exit_fault LogFileWriter (Unit {0}) (IsNoFile (g.F.FileSystem.disk c.new_file.new.files) c.in_ok-file.file.handle.0) (Rises 1 b e) (LacksPlace c.args.self.now (g.F.FileSystem.disk c.args.files.now) 1) (Rises 1 a e)
     c.from_residual-in_err-writer.result c.in_err-writer.field-0.0 c.from_residual-in_err-writer.ensures.1
     (λ none. absurd (made_there _ _ _ c.in_ok-file.file c.in_ok-file.ensures.created none)) (rises_then 0 1 a b e c.in_ok-file.ensures.later.counts) c.in_err-writer.ensures.cause
+
+-- ---- which file may be torn
+
+pub returns-in_err-file-clause-torn : goal.returns-in_err-file-clause-torn
+returns-in_err-file-clause-torn g c =
+    at_err _ (IsAlone c.args.self.now (g.F.FileSystem.disk c.args.files.now) → (s : Numbered) → Holds c.args.self.now (g.F.FileSystem.disk c.args.files.now) s [] → IsTornAtEnd c.args.self.now (g.F.FileSystem.disk c.new_file.new.files))
+    (λ alone s h. refused_torn c.args.self.now (g.F.FileSystem.disk c.args.files.now) (g.F.FileSystem.disk c.new_file.new.files) c.new-id.result c.in_err-file.field-0.0 s c.requires.pipe c.requires.ended h alone c.new-id.ensures.seq (subst IsFileSeq (sym c.new-id.ensures.seq) c.requires.number) c.new-id.ensures.queue
+    (subst (λ (l : List (String Global)). IsMadeIn (g.F.FileSystem.disk c.args.files.now) (g.F.FileSystem.disk c.new_file.new.files) (map string_bytes l) c.new-id.result (Err c.in_err-file.field-0.0)) c.deref.ensures.value c.in_err-file.ensures.made))
+
+pub returns-in_err-writer-clause-torn : goal.returns-in_err-writer-clause-torn
+returns-in_err-writer-clause-torn g c =
+    at_err _ (IsAlone c.args.self.now (g.F.FileSystem.disk c.args.files.now) → (s : Numbered) → Holds c.args.self.now (g.F.FileSystem.disk c.args.files.now) s [] → IsTornAtEnd c.args.self.now (g.F.FileSystem.disk c.begin_file.new.files))
+    (λ alone s h. unbegun_torn c.args.self.now (g.F.FileSystem.disk c.args.files.now) (g.F.FileSystem.disk c.begin_file.new.files) c.in_ok-file.file s c.requires.pipe c.requires.ended h (g.F.FileSystem.disk c.new_file.new.files) c.new-id.result alone (c.in_ok-file.ensures.file.0 ∙ c.new-id.ensures.seq) (subst IsFileSeq (sym c.new-id.ensures.seq) c.requires.number)
+    (λ i. record { queue = c.new-id.ensures.queue i; seq = sym c.in_ok-file.ensures.file.0 i }) c.in_ok-file.ensures.created.1
+    (subst (λ (l : List (String Global)). IsMadeIn (g.F.FileSystem.disk c.args.files.now) (g.F.FileSystem.disk c.new_file.new.files) (map string_bytes l) c.new-id.result (Ok c.in_ok-file.file)) c.deref.ensures.value c.in_ok-file.ensures.made)
+    c.in_err-writer.ensures.begun.0 c.in_err-writer.ensures.plain)
+
+pub returns-in_err-push-clause-torn : goal.returns-in_err-push-clause-torn
+returns-in_err-push-clause-torn g c =
+    at_err _ (IsAlone c.args.self.now (g.F.FileSystem.disk c.args.files.now) → (s : Numbered) → Holds c.args.self.now (g.F.FileSystem.disk c.args.files.now) s [] → IsTornAtEnd (with_older c.args.self.now c.push.new.self) (g.F.FileSystem.disk c.begin_file.new.files))
+    (λ alone s h. unpushed_torn c.args.self.now (g.F.FileSystem.disk c.args.files.now) (g.F.FileSystem.disk c.begin_file.new.files) c.in_ok-file.file s c.requires.pipe c.requires.ended h (g.F.FileSystem.disk c.new_file.new.files) c.new-id.result alone (c.in_ok-file.ensures.file.0 ∙ c.new-id.ensures.seq) (subst IsFileSeq (sym c.new-id.ensures.seq) c.requires.number)
+    (λ i. record { queue = c.new-id.ensures.queue i; seq = sym c.in_ok-file.ensures.file.0 i }) c.in_ok-file.ensures.created.1
+    c.push.new.self c.in_ok-writer.writer c.in_err-push.ensures.items (subst IsPlain (sym c.in_ok-file.ensures.file.1) c.requires.pipe.plain)
+    (subst (λ (l : List (String Global)). IsMadeIn (g.F.FileSystem.disk c.args.files.now) (g.F.FileSystem.disk c.new_file.new.files) (map string_bytes l) c.new-id.result (Ok c.in_ok-file.file)) c.deref.ensures.value c.in_ok-file.ensures.made)
+    c.in_ok-writer.ensures.begun)

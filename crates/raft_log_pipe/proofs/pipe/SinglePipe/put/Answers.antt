@@ -12,6 +12,7 @@ use Rattle.raft_log_file.proofs.LawLemmas.{length-spelled}
 use Rattle.raft_log_pipe.specs.Taken.{IsTooLarge}
 use Rattle.raft_log_pipe.proofs.TakenLemmas.{last_there, still_taken}
 use Rattle.raft_log_pipe.proofs.CausedLemmas.{counted_cause}
+use Rattle.raft_log_pipe.proofs.TornLemmas.{unput_torn}
 use Rattle.raft_log_pipe.proofs.pipe.SinglePipe.put.Goals as goal
 
 pub returns-in-Err-clause-pipe : goal.returns-in-Err-clause-pipe
@@ -99,3 +100,11 @@ pub returns-in-Err-clause-cause : goal.returns-in-Err-clause-cause
 returns-in-Err-clause-cause g c =
     counted_cause (Unit {0}) FileBlockHandle ⊥ (g.F.FileSystem.meter c.args.files.now) (g.F.FileSystem.meter c.write.new.files) c.in-Err.fault c.in-Err.ensures.counted
     (λ e. last_there c.args.self.now _ c.requires.pipe (c.in-Err.ensures.not_found e))
+
+pub returns-in-Err-clause-torn : goal.returns-in-Err-clause-torn
+returns-in-Err-clause-torn g c =
+    let signature : signature_of c.new-context.result.version c.new-context.result.id.seq ≡ signature_of c.args.self.now.active.format.version c.args.self.now.active.seq
+    = λ i. signature_of (c.new-context.ensures.version i) (((λ j. (c.new-context.ensures.id j).seq) ∙ c.new-id.ensures.seq) i) in
+    unput_torn c.args.self.now c.write.new.self _ _ _ _ _ c.in-Err.fault c.requires.pipe c.requires.items
+    (record_is c.args.batch.now _ _ _ _ c.requires.populated c.prepare_write.ensures c.encoded_bytes-bytes.ensures signature)
+    c.in-Err.ensures.writes

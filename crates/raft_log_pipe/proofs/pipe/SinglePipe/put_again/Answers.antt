@@ -1,25 +1,28 @@
 use Rattle.raft_log_disk.proofs.CauseLemmas.{at_err}
-use Rattle.raft_log_pipe.proofs.ExitLemmas.{all_or, put_after, then_holds, then_leaves, unless_no_space, unput_after, unput_from}
-use Rattle.std.proofs.Common.{refl}
+use Rattle.raft_log_pipe.proofs.ExitLemmas.{all_or, put_after, still_leaves, then_holds, then_leaves, unless_no_space, unput_after, unput_from}
+use Rattle.std.proofs.Common.{refl, Err}
 use Rattle.raft_log_pipe.proofs.BlockLemmas.{more_files, same_files, stands_after, then_files}
 use Rattle.raft_log_pipe.proofs.GiveUpLemmas.{given_up}
 use Rattle.raft_log_pipe.proofs.AloneLemmas.{alone_on, nearly_on}
 use Rattle.raft_log_pipe.proofs.OthersLemmas.{others_on}
-use Rattle.raft_log_disk.proofs.RefusalLemmas.{no_more_then, still_free}
+use Rattle.raft_log_disk.proofs.RefusalLemmas.{lacks_then, no_more_then, still_free}
 use Rattle.raft_log_files.specs.Error.{io_error, second_append_error}
 use Rattle.raft_log_records.specs.declared.file_id.FileBlockHandle.{FileBlockHandle}
 use Rattle.raft_log_pipe.specs.Taken.{IsBarred, IsTooLarge, IsUnmade, IsUnnumbered}
 use Rattle.raft_log_pipe.proofs.TakenLemmas.{barred_before, fits_new, no_space_large, same_next, still_taken, taken_io, taken_second, told_error, unmade_before}
 use Rattle.std.proofs.Common.{◌≡◌, ◌+◌, ◌∙◌, ℕ, inr, ap, arith}
-use Rattle.raft_log_disk.specs.Cause.{Rises}
+use Rattle.raft_log_disk.specs.Cause.{Lacks, Rises}
 use Rattle.raft_log_files.specs.declared.error.Error.{Error}
 use Rattle.raft_log_pipe.specs.declared.file.File.{File}
 use Rattle.raft_log_pipe.specs.Caused.{BeginsFiles, IsSecondAppendFault, LacksNumber, LacksPlace}
 use Rattle.raft_log_pipe.proofs.CausedLemmas.{begins_first, caused_for, number_before, place_before, rises_then, told_cause, told_io, told_second}
+use Rattle.std.proofs.Common.{inl, ◌++◌, []}
+use Rattle.raft_log_pipe.specs.Torn.{TearsAtEnd}
+use Rattle.raft_log_pipe.proofs.TornLemmas.{held_torn, torn_next, torn_then}
 use Rattle.raft_log_pipe.proofs.pipe.SinglePipe.put_again.Goals as goal
 
 pub returns-in_err-finish-clause-err : goal.returns-in_err-finish-clause-err
-returns-in_err-finish-clause-err g c = at_err _ _ (unput_from c.args.self.now c.finish.new.self (g.F.FileSystem.disk c.args.files.now) (g.F.FileSystem.disk c.finish.new.files) c.args.batch.now.items c.in_err-finish.ensures.err)
+returns-in_err-finish-clause-err g c = at_err _ _ (unput_from c.args.self.now c.finish.new.self (g.F.FileSystem.disk c.args.files.now) (g.F.FileSystem.disk c.finish.new.files) c.args.batch.now.items (still_leaves c.args.self.now c.finish.new.self (g.F.FileSystem.disk c.args.files.now) (g.F.FileSystem.disk c.finish.new.files) c.in_err-finish.ensures.err))
 
 pub returns-in-Err-clause-err : goal.returns-in-Err-clause-err
 returns-in-Err-clause-err g c =
@@ -142,8 +145,8 @@ returns-in_err-finish-clause-cause g c =
     let b = g.F.FileSystem.meter c.finish.new.files in
     told_cause c.from_residual.result c.in_err-finish.field-0.0 (λ (e : Error). IsSecondAppendFault p d a b e) c.from_residual.ensures.1
     (caused_for (Rises 1 a b) ⊥ (IsUnnumbered p) ⊥
-    (Rises 1 a b) (Rises 1 a b) ((n : ℕ) × BeginsFiles (Unit {0}) a b n × LacksNumber p n) ((n : ℕ) × BeginsFiles (Unit {0}) a b n × LacksPlace p d n) c.in_err-finish.field-0.0
-    (λ x. x) (λ x. absurd x) (λ x. (1, begins_first (Unit {0}) a b tt c.in_err-finish.ensures.later.counts, x)) (λ x. absurd x) c.in_err-finish.ensures.cause)
+    (Rises 1 a b) (Lacks 1 a b) ((n : ℕ) × BeginsFiles (Unit {0}) a b n × LacksNumber p n) ((n : ℕ) × BeginsFiles (Unit {0}) a b n × LacksPlace p d n) c.in_err-finish.field-0.0
+    (λ x. x) (λ x. absurd x) (λ x. (1, begins_first (Unit {0}) a b tt c.in_err-finish.ensures.later.spaces, x)) (λ x. absurd x) c.in_err-finish.ensures.cause)
 
 pub returns-in-Err-clause-cause : goal.returns-in-Err-clause-cause
 returns-in-Err-clause-cause g c =
@@ -155,9 +158,9 @@ returns-in-Err-clause-cause g c =
     let b = g.F.FileSystem.meter c.finish.new.files in
     let e = g.F.FileSystem.meter c.go_on.new.files in
     let same : q.active.seq ≡ p.active.seq = ap (λ (f : File). f.seq) c.in_ok-finish.ensures.same.0 in
-    let before : Rises 0 a e = rises_then 0 0 a b e c.in_ok-finish.ensures.later.counts c.in-Err.ensures.later.counts in
+    let before : Lacks 0 a e = lacks_then 0 0 a b e c.in_ok-finish.ensures.later.spaces c.in-Err.ensures.later.spaces in
     let place : Type 0 = (n : ℕ) × BeginsFiles (Unit {0}) a e n × LacksPlace p d n in
-    told_second (Unit {0}) (Rises 1 a e) (Rises 1 a e) ((n : ℕ) × BeginsFiles (Unit {0}) a e n × LacksNumber p n) place c.of_second_append.result c.in-Err.fault c.of_second_append.ensures (λ x. x)
+    told_second (Unit {0}) (Rises 1 a e) (Lacks 1 a e) ((n : ℕ) × BeginsFiles (Unit {0}) a e n × LacksNumber p n) place c.of_second_append.result c.in-Err.fault c.of_second_append.ensures (λ none. lacks_then 0 1 a b e c.in_ok-finish.ensures.later.spaces (c.in-Err.ensures.lacks none))
     (still_taken (Unit {0}) (Unit {0}) (LacksPlace q y 1) (Rises 1 b e) place (Rises 1 a e) c.in-Err.fault
     (λ lacks. (1, begins_first (Unit {0}) a e tt before, place_before p q d y 0 1 c.in_ok-finish.ensures.others.directories c.in_ok-finish.ensures.paths c.in_ok-finish.ensures.same.2 (omega (arith, same)) lacks))
     (rises_then 0 1 a b e c.in_ok-finish.ensures.later.counts) c.in-Err.ensures.cause)
@@ -171,7 +174,7 @@ returns-in-Err-put-clause-cause g c =
     let e = g.F.FileSystem.meter c.go_on.new.files in
     let i = g.F.FileSystem.meter c.put.new.files in
     let place : Type 0 = (n : ℕ) × BeginsFiles (Unit {0}) a i n × LacksPlace p d n in
-    told_io FileBlockHandle (Rises 1 a i) (Rises 1 a i) ((n : ℕ) × BeginsFiles (Unit {0}) a i n × LacksNumber p n) place c.from.result c.in-Err-put.fault c.from.ensures
+    told_io FileBlockHandle (Rises 1 a i) (Lacks 1 a i) ((n : ℕ) × BeginsFiles (Unit {0}) a i n × LacksNumber p n) place c.from.result c.in-Err-put.fault c.from.ensures
     (still_taken FileBlockHandle FileBlockHandle ⊥ (Rises 1 e i) place (Rises 1 a i) c.in-Err-put.fault (λ x. absurd x)
     (rises_then 0 1 a e i (rises_then 0 0 a b e c.in_ok-finish.ensures.later.counts c.in-Ok.ensures.later.counts)) c.in-Err-put.ensures.cause)
 
@@ -189,16 +192,46 @@ returns-in-Err-NoSpace-clause-cause g c =
     let one : Rises 1 a i = rises_then 0 1 a e i (rises_then 0 0 a b e c.in_ok-finish.ensures.later.counts c.in-Ok.ensures.later.counts)
     (no_space_large FileBlockHandle ⊥ (Rises 1 e i) c.in-Err-NoSpace.field-0 c.in-Err-NoSpace.field-0-is c.in-Err-NoSpace.ensures.cause) in
     let all : Rises 1 a o = rises_then 1 0 a i o one c.give_up.ensures.later.counts in
-    let begins : BeginsFiles (Unit {0}) a o 2 = record { some = omega arith; counts = inr (tt, all) } in
+    let lack : Lacks 1 a i = lacks_then 0 1 a e i (lacks_then 0 0 a b e c.in_ok-finish.ensures.later.spaces c.in-Ok.ensures.later.spaces) (c.in-Err-NoSpace.ensures.lacks (ap Err c.in-Err-NoSpace.field-0-is)) in
+    let lacks : Lacks 1 a o = lacks_then 1 0 a i o lack c.give_up.ensures.later.spaces in
+    let begins : BeginsFiles (Unit {0}) a o 2 = record { some = omega arith; counts = inr (tt, lacks) } in
     let closed : c.finish.new.self.active.seq ≡ p.active.seq = ap (λ (f : File). f.seq) c.in_ok-finish.ensures.same.0 in
     let same : q.active.seq ≡ c.go_on.new.self.active.seq = ap (λ (f : File). f.seq) c.in-Err-NoSpace.ensures.same.0 in
     let next : q.active.seq ≡ p.active.seq + 1 = omega (arith, same, c.in-Ok.ensures.next.0, closed) in
     caused_for (Rises 1 i o) (Unit {0}) (LacksNumber q 1) (LacksPlace q y 1)
-    (Rises 1 a o) (Rises 1 a o) ((n : ℕ) × BeginsFiles (Unit {0}) a o n × LacksNumber p n) ((n : ℕ) × BeginsFiles (Unit {0}) a o n × LacksPlace p d n) c.give_up.result
-    (λ x. all) (λ x. all) (λ lacks. (2, begins, number_before p q 1 1 next lacks))
+    (Rises 1 a o) (Lacks 1 a o) ((n : ℕ) × BeginsFiles (Unit {0}) a o n × LacksNumber p n) ((n : ℕ) × BeginsFiles (Unit {0}) a o n × LacksPlace p d n) c.give_up.result
+    (λ x. all) (λ x. lacks) (λ lacks. (2, begins, number_before p q 1 1 next lacks))
     (λ lacks. (
       2,
       begins,
       place_before p q d y 1 1 (c.in-Err-NoSpace.ensures.others.directories ∙ c.in-Ok.ensures.others.directories ∙ c.in_ok-finish.ensures.others.directories)
           (c.in-Err-NoSpace.ensures.paths ∙ c.in-Ok.ensures.paths ∙ c.in_ok-finish.ensures.paths) (c.in-Err-NoSpace.ensures.same.2 ∙ c.in-Ok.ensures.queue ∙ c.in_ok-finish.ensures.same.2) next lacks,
     )) c.give_up.ensures.cause
+
+-- ---- which file may be torn
+
+pub returns-in_err-finish-clause-torn : goal.returns-in_err-finish-clause-torn
+returns-in_err-finish-clause-torn g c =
+    at_err _ (TearsAtEnd c.args.self.now (g.F.FileSystem.disk c.args.files.now) c.finish.new.self (g.F.FileSystem.disk c.finish.new.files))
+    (torn_then c.args.self.now c.finish.new.self c.finish.new.self (g.F.FileSystem.disk c.args.files.now) (g.F.FileSystem.disk c.finish.new.files) (g.F.FileSystem.disk c.finish.new.files)
+    (λ alone. alone_on c.args.self.now c.finish.new.self (g.F.FileSystem.disk c.args.files.now) (g.F.FileSystem.disk c.finish.new.files) c.in_err-finish.ensures.same c.in_err-finish.ensures.paths c.in_err-finish.ensures.names alone)
+    (λ s u h. inl (c.in_err-finish.ensures.err s u h)) (held_torn c.finish.new.self (g.F.FileSystem.disk c.finish.new.files)))
+
+pub returns-in-Err-clause-torn : goal.returns-in-Err-clause-torn
+returns-in-Err-clause-torn g c =
+    torn_next c.args.self.now c.finish.new.self c.go_on.new.self (g.F.FileSystem.disk c.args.files.now) (g.F.FileSystem.disk c.finish.new.files) (g.F.FileSystem.disk c.go_on.new.files)
+    (λ alone. alone_on c.args.self.now c.finish.new.self (g.F.FileSystem.disk c.args.files.now) (g.F.FileSystem.disk c.finish.new.files) c.in_ok-finish.ensures.same c.in_ok-finish.ensures.paths c.in_ok-finish.ensures.names alone)
+    c.in_ok-finish.ensures.ok c.in-Err.ensures.torn
+
+pub returns-in-Err-put-clause-torn : goal.returns-in-Err-put-clause-torn
+returns-in-Err-put-clause-torn g c =
+    torn_then c.args.self.now c.go_on.new.self c.put.new.self (g.F.FileSystem.disk c.args.files.now) (g.F.FileSystem.disk c.go_on.new.files) (g.F.FileSystem.disk c.put.new.files)
+    (λ alone. c.in-Ok.ensures.alone (alone_on c.args.self.now c.finish.new.self (g.F.FileSystem.disk c.args.files.now) (g.F.FileSystem.disk c.finish.new.files) c.in_ok-finish.ensures.same c.in_ok-finish.ensures.paths c.in_ok-finish.ensures.names alone))
+    (λ s u h. inr (c.in-Ok.ensures.ok (s ++ u) (c.in_ok-finish.ensures.ok s u h))) c.in-Err-put.ensures.torn
+
+pub returns-in-Err-NoSpace-clause-torn : goal.returns-in-Err-NoSpace-clause-torn
+returns-in-Err-NoSpace-clause-torn g c =
+    torn_then c.args.self.now c.put.new.self c.give_up.new.self (g.F.FileSystem.disk c.args.files.now) (g.F.FileSystem.disk c.put.new.files) (g.F.FileSystem.disk c.give_up.new.files)
+    (λ alone. alone_on c.go_on.new.self c.put.new.self (g.F.FileSystem.disk c.go_on.new.files) (g.F.FileSystem.disk c.put.new.files) c.in-Err-NoSpace.ensures.same c.in-Err-NoSpace.ensures.paths c.in-Err-NoSpace.ensures.names
+    (c.in-Ok.ensures.alone (alone_on c.args.self.now c.finish.new.self (g.F.FileSystem.disk c.args.files.now) (g.F.FileSystem.disk c.finish.new.files) c.in_ok-finish.ensures.same c.in_ok-finish.ensures.paths c.in_ok-finish.ensures.names alone)))
+    (λ s u h. inr (unless_no_space c.in-Err-NoSpace.field-0 _ c.in-Err-NoSpace.field-0-is c.in-Err-NoSpace.ensures.unwritten (s ++ u) [] (c.in-Ok.ensures.ok (s ++ u) (c.in_ok-finish.ensures.ok s u h)))) c.give_up.ensures.torn

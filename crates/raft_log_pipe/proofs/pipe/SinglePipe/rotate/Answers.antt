@@ -1,6 +1,6 @@
 use Rattle.raft_log_pipe.specs.Alone.{IsAlone, IsNearlyAlone}
 use Rattle.raft_log_disk.proofs.CauseLemmas.{at_err}
-use Rattle.raft_log_pipe.proofs.ExitLemmas.{then_holds, then_leaves}
+use Rattle.raft_log_pipe.proofs.ExitLemmas.{still_leaves, then_holds, then_leaves}
 use Rattle.raft_log_pipe.proofs.AloneLemmas.{alone_on, nearly_on}
 use Rattle.raft_log_pipe.proofs.OthersLemmas.{others_on}
 use Rattle.raft_log_disk.proofs.RefusalLemmas.{no_more_then}
@@ -12,6 +12,9 @@ use Rattle.raft_log_pipe.specs.Taken.{IsUnnumbered}
 use Rattle.raft_log_files.specs.declared.error.Error.{Error}
 use Rattle.raft_log_pipe.proofs.TakenLemmas.{still_taken}
 use Rattle.raft_log_pipe.proofs.CausedLemmas.{caused_for, exit_cause, place_before, rises_then, told_cause}
+use Rattle.std.proofs.Common.{inl}
+use Rattle.raft_log_pipe.specs.Torn.{TearsAtEnd}
+use Rattle.raft_log_pipe.proofs.TornLemmas.{held_torn, torn_next, torn_then}
 use Rattle.raft_log_pipe.proofs.pipe.SinglePipe.rotate.Goals as goal
 
 pub returns-in_err-go_on-clause-err : goal.returns-in_err-go_on-clause-err
@@ -64,3 +67,23 @@ returns-in_err-go_on-clause-cause g c =
     (still_taken (Unit {0}) (Unit {0}) (LacksPlace q y 1) (Rises 1 b e) (LacksPlace p d 1) (Rises 1 a e) c.in_err-go_on.field-0.0
     (place_before p q d y 0 1 c.in_ok-finish.ensures.others.directories c.in_ok-finish.ensures.paths c.in_ok-finish.ensures.same.2 (omega (arith, same)))
     (rises_then 0 1 a b e c.in_ok-finish.ensures.later.counts) c.in_err-go_on.ensures.cause)
+
+-- ---- which file may be torn
+
+pub returns-in_err-finish-clause-err : goal.returns-in_err-finish-clause-err
+returns-in_err-finish-clause-err g c =
+    at_err _ _ (still_leaves c.args.self.now c.finish.new.self (g.F.FileSystem.disk c.args.files.now) (g.F.FileSystem.disk c.finish.new.files) c.in_err-finish.ensures.err)
+
+pub returns-in_err-finish-clause-torn : goal.returns-in_err-finish-clause-torn
+returns-in_err-finish-clause-torn g c =
+    at_err _ (TearsAtEnd c.args.self.now (g.F.FileSystem.disk c.args.files.now) c.finish.new.self (g.F.FileSystem.disk c.finish.new.files))
+    (torn_then c.args.self.now c.finish.new.self c.finish.new.self (g.F.FileSystem.disk c.args.files.now) (g.F.FileSystem.disk c.finish.new.files) (g.F.FileSystem.disk c.finish.new.files)
+    (λ alone. alone_on c.args.self.now c.finish.new.self (g.F.FileSystem.disk c.args.files.now) (g.F.FileSystem.disk c.finish.new.files) c.in_err-finish.ensures.same c.in_err-finish.ensures.paths c.in_err-finish.ensures.names alone)
+    (λ s u h. inl (c.in_err-finish.ensures.err s u h)) (held_torn c.finish.new.self (g.F.FileSystem.disk c.finish.new.files)))
+
+pub returns-in_err-go_on-clause-torn : goal.returns-in_err-go_on-clause-torn
+returns-in_err-go_on-clause-torn g c =
+    at_err _ (TearsAtEnd c.args.self.now (g.F.FileSystem.disk c.args.files.now) c.go_on.new.self (g.F.FileSystem.disk c.go_on.new.files))
+    (torn_next c.args.self.now c.finish.new.self c.go_on.new.self (g.F.FileSystem.disk c.args.files.now) (g.F.FileSystem.disk c.finish.new.files) (g.F.FileSystem.disk c.go_on.new.files)
+    (λ alone. alone_on c.args.self.now c.finish.new.self (g.F.FileSystem.disk c.args.files.now) (g.F.FileSystem.disk c.finish.new.files) c.in_ok-finish.ensures.same c.in_ok-finish.ensures.paths c.in_ok-finish.ensures.names alone)
+    c.in_ok-finish.ensures.ok c.in_err-go_on.ensures.torn)

@@ -7,7 +7,7 @@ use Rattle.raft_log_recovery.specs.declared.scan.FileKind.TheVariants.{Log}
 use Rattle.raft_log_recovery.specs.declared.scan.FileName.{FileName}
 use Rattle.raft_log_recovery.specs.Opening.{batches_of}
 use Rattle.raft_log_pipe.specs.Found.{KeepsButHeader}
-use Rattle.raft_log_recovery.specs.Queue.{AreLeft, AreReadAlike, AreRecovered, OnlyChanges, directories_in, names_in}
+use Rattle.raft_log_recovery.specs.Queue.{AreLeft, AreRecovered, OnlyChanges, directories_in, names_in}
 use Rattle.raft_log_pipe.specs.Found.{MakesButHeader}
 use Rattle.raft_log_pipe.specs.Pipe.{id_of}
 use Rattle.raft_log_recovery.specs.Scan.{AreFound}

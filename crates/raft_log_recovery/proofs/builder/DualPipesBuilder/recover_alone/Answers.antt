@@ -1,6 +1,5 @@
-use Rattle.std.proofs.Common.{[], ◌++◌, Err}
+use Rattle.std.proofs.Common.{◌++◌, Err}
 use Rattle.raft_log_records.specs.declared.file_id.LogQueue.{LogQueue}
-use Rattle.raft_log_records.specs.declared.file_id.LogQueue.TheVariants.{Append, Rewrite}
 use Rattle.raft_log_files.specs.declared.error.CorruptionFault.{CorruptionFault}
 use Rattle.raft_log_files.specs.declared.error.Error.{Error}
 use Rattle.raft_log_pipe.proofs.CausedLemmas.{told_cause}

@@ -1,0 +1,10 @@
+pub mod SameNotes
+pub mod QuietEvents
+pub mod ListsKept
+pub mod PlainEvents
+pub mod Worlds
+pub mod CallsOn
+pub mod HaltsOn
+pub mod OthersOn
+pub mod EventsOn
+pub mod StopLemmas

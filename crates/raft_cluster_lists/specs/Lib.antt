@@ -1,0 +1,5 @@
+pub mod Brought
+pub mod GoingOn
+pub mod Hearing
+pub mod Keeping
+pub mod Lists

@@ -1,0 +1,12 @@
+pub mod Happening
+pub mod Lists
+pub mod Snapshots
+pub mod TellingLists
+pub mod AskedEntries
+pub mod Gains
+pub mod Continuing
+pub mod CallsWrite
+pub mod Openings
+pub mod NewNotes
+pub mod Stops
+pub mod TrueReports

@@ -1,0 +1,58 @@
+//! Whether a queue is to be cleaned.
+
+ghost use Rattle.std.specs.Prelude.{◌≡◌, ◌+◌, ◌-◌, ◌*◌, ◌^◌, ◌↔◌, min, length, IsTrue};
+ghost use Rattle.raft_log_pipe.specs.Pipe.{first_of};
+ghost use Rattle.raft_log_pipes.specs.Pipes.{pipe_of};
+ghost use Rattle.raft_log_purge.specs.Due.{HasGarbage, IsLarge};
+
+use raft_log_pipes::DualPipes;
+use raft_log_records::{FileSeq, LogQueue};
+
+/// The files of a queue.
+#[derive(Clone, Copy, Debug, PartialEq, Eq)]
+pub struct QueueFiles {
+    /// The number of the first one.
+    pub first: FileSeq,
+    /// The number of the last one, which is written.
+    pub active: FileSeq,
+    /// The bytes of all of them, each taken as long as the target size.
+    pub size: u64,
+}
+
+/// What was written to the rewrite queue.
+#[derive(Clone, Copy, Debug, PartialEq, Eq)]
+pub struct Rewritten {
+    /// How many entries and keys were written to it, since it was last written anew.
+    pub written: u64,
+    /// How many of them still count.
+    pub live: u64,
+}
+
+/// The files that a queue has.
+pub fn files_of(pipes: &DualPipes, queue: LogQueue) -> QueueFiles
+    ensures first { result.first ≡ first_of (pipe_of pipes.now queue) }
+    ensures active { result.active ≡ (pipe_of pipes.now queue).active.seq }
+    ensures size { result.size ≡ min ((length (pipe_of pipes.now queue).older.items + 1) * (pipe_of pipes.now queue).target_file_size) (2 ^ 64 - 1) }
+{
+    let (first, active) = pipes.file_span(queue);
+    QueueFiles {
+        first,
+        active,
+        size: pipes.total_size(queue),
+    }
+}
+
+/// Whether a queue has old files, and with them more bytes than it may have.
+pub fn is_large(files: QueueFiles, most: u64) -> bool
+    ensures { IsTrue result ↔ IsLarge files most }
+{
+    files.first < files.active && most < files.size
+}
+
+/// Whether more per cent than these of what was written to the rewrite queue count no more.
+pub fn has_garbage(counts: Rewritten, percent: u64) -> bool
+    ensures { IsTrue result ↔ HasGarbage counts percent }
+{
+    let garbage = counts.written.saturating_sub(counts.live);
+    (counts.written as u128) * (percent as u128) < (garbage as u128) * 100
+}

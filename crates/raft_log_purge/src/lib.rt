@@ -1,0 +1,21 @@
+//! Cleaning of the log: whether a queue is to be cleaned, up to which files, and what is done with
+//! each group.
+#![tactic(auto)]
+
+mod choice;
+mod due;
+mod going;
+mod laws;
+mod marking;
+mod reports;
+mod rewriting;
+mod watermarks;
+
+pub use choice::{Choice, GroupFacts, choice_of};
+pub use due::{QueueFiles, Rewritten, files_of, has_garbage, is_large};
+pub use going::{first_kept, let_go};
+pub use laws::{cleaning_steps_keep_queues, worked_marks};
+pub use marking::{mark_anyway, mark_group, mark_groups};
+pub use reports::Reports;
+pub use rewriting::{rewrite_entries, rewrite_key};
+pub use watermarks::{Watermarks, mark_at, watermarks_of};
