@@ -69,6 +69,13 @@ def _pairs(text):
     return pairs, None if pairs else "it has no pair of lines old: and new:"
 
 
+def unfit(crate, folder):
+    """Returns which of the crate's edits can't be made, each with the reason."""
+    found = [Edit(crate, it) for it in sorted(glob.glob(f"{glob.escape(folder)}/*.edit"))]
+    whys = [(it.name, it.fault or it.made({})[1]) for it in found]
+    return [f"{name} can't be made: {why}" for name, why in whys if why]
+
+
 def read(crate, folder):
     """Returns the crate's edits, each with the functions that must be refused."""
     found = [Edit(crate, it) for it in sorted(glob.glob(f"{glob.escape(folder)}/*.edit"))]
