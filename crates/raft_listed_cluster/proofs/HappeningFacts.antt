@@ -49,8 +49,7 @@ module _ {N : Type 0} (acts : NodeActs N) (nodes : List N) (sent : Sent) (e : Cl
   nodes_of (Some n) is r =
       let there : node_in acts nodes n ≡ Some r.before = ap (node_at acts nodes) (sym is) ∙ r.named in
       let own : acts.id r.before ≡ n = its_id acts nodes n r.before there in
-      let P : ℕ → Type 0 = λ m. node_in acts (with_node acts m r.behind nodes) n ≡ Some r.behind in
-      (
+      let P : ℕ → Type 0 = λ m. node_in acts (with_node acts m r.behind nodes) n ≡ Some r.behind in (
         n,
         refl,
         record {

@@ -4,7 +4,7 @@ use Rattle.raft_group_step.specs.Values.{Entry, Membership}
 use Rattle.raft_laws.specs.BallotLists.{AgreeBelow}
 use Rattle.raft_laws.specs.Settled.{group_list}
 use Rattle.raft_machines.specs.Machine.{MachineRules}
-use Rattle.raft_sent_frames.specs.Frames.{first_accepted}
+use Rattle.raft_sent_frames.specs.Frames.{first_accepted, frames_of}
 use Rattle.raft_list_facts.specs.declared.acceptance.Acceptance.{Acceptance}
 use Rattle.raft_list_facts.specs.declared.leading.Leading.{Leading}
 use Rattle.raft_cluster_events.specs.declared.event.ClusterEvent.{ClusterEvent}
@@ -19,7 +19,7 @@ use Rattle.raft_cluster_lists.specs.Groups.{BringsTo, IsHeard, IsPreparedFor, Is
 use Rattle.raft_cluster_lists.specs.Hearing.{group_of}
 use Rattle.raft_cluster_lists.specs.Keeping.{list_in}
 use Rattle.raft_cluster_lists.proofs.ListsKept.{kept_lists_are_the_groups}
-use Rattle.raft_cluster.specs.Cluster.{Happens, Reaches, nothing_sent}
+use Rattle.raft_cluster.specs.Cluster.{ClusterValue, Happens, Reaches, Steps, nothing_sent}
 use Rattle.raft_cluster.specs.Facts.{Sent, node_at, node_in, node_of}
 use Rattle.raft_cluster.specs.Joined.{downs_of, ids_of}
 use Rattle.raft_cluster.proofs.ClusterLemmas.{runs_on}
@@ -29,7 +29,7 @@ use Rattle.raft_cluster.proofs.ListLemmas.{its_id}
 use Rattle.raft_cluster.proofs.PlainLemmas.{first_set_up}
 use Rattle.raft_listed_cluster.specs.Hearing.{HasSent, IsHeardBy, IsHeardOf, Tells}
 use Rattle.raft_listed_cluster.specs.Keeping.{KeepsLists, notes_of}
-use Rattle.raft_listed_cluster.specs.Listed.{HasLists, OnlyGrow, lists_of}
+use Rattle.raft_listed_cluster.specs.Listed.{HasLists, ListedValue, OnlyGrow, lists_of}
 use Rattle.raft_listed_cluster.proofs.GroupFacts.{prepared_lists, prepared_on, same_list}
 use Rattle.raft_listed_cluster.proofs.HappeningFacts.{IsAway, IsNodeOf, away_or_reaches, its_node, nodes_of, opening_taken}
 use Rattle.raft_listed_cluster.proofs.ListFacts.{grow_on, same_grow}
@@ -37,9 +37,8 @@ use Rattle.raft_listed_cluster.proofs.StepFacts.{IsOn, away_each, heard_away, he
 
 module _ {N : Type 0} (rules : MachineRules) (acts : NodeActs N) (states : NodeStates N) (law : KeepsLaw rules acts states) where
   -- what is kept has the lists of which the headline speaks
-  pub has_lists : (nodes : List N) (sent : Sent) (history : List Recorded) (groups : List KeptGroup) → KeepsLists rules acts states nodes sent history groups
-      → HasLists rules acts states nodes sent history (lists_of groups)
-  has_lists nodes sent history groups keeps =
+  pub has_lists : (now : ListedValue N) → KeepsLists rules acts states now.cluster.nodes (frames_of now.cluster.sent) now.cluster.history now.groups → HasLists rules acts states now
+  has_lists now keeps =
       let ids = ids_of acts keeps.first in
       let told = keeps.so_far.told in
       record {
@@ -48,8 +47,10 @@ module _ {N : Type 0} (rules : MachineRules) (acts : NodeActs N) (states : NodeS
         runs = keeps.runs;
         told = told;
         lists = λ h choice among.
-            let (leads, headline, list) = kept_lists_are_the_groups rules ids told.stand.kept.node_ids h (told.stand.candidates h) told.plain (notes_of (kept_in groups h) (first_set_up h history)) (keeps.each h) choice among in
-            (leads, headline, sym (same_list (kept_in groups h) (first_set_up h history)) ∙ list);
+            let asked = first_set_up h now.cluster.history in
+            let kept = kept_in now.groups h in
+            let (leads, headline, list) = kept_lists_are_the_groups rules ids told.stand.kept.node_ids h (told.stand.candidates h) told.plain (notes_of kept asked) (keeps.each h) choice among in
+            (leads, headline, sym (same_list kept asked) ∙ list);
       }
 
   -- ---- before an event
@@ -138,3 +139,41 @@ module _ {N : Type 0} (rules : MachineRules) (acts : NodeActs N) (states : NodeS
           let P : List Entry → Type 0 = λ l. AgreeBelow (length l) l (lists_of news h) in
           let Q : List Entry → Type 0 = λ l. AgreeBelow (length (list_in (notes_of (kept_in olds h) (first_set_up h history)))) (list_in (notes_of (kept_in olds h) (first_set_up h history))) l in
           subst P before (subst Q behind (each_on h).grows)
+
+  -- ---- a step
+
+  -- what is known of a step, and was heard of it
+  pub record IsSteppedSo (old : ClusterValue N) (e : ClusterEvent) (new : ClusterValue N) (groups : List KeptGroup) (recorded : Recorded) (news : List KeptGroup) : Type 0 where
+    pub step : Steps acts old e new
+    pub last : recorded ≡ record { event = e; outcome = step.outcome }
+    pub id : Option ℕ
+    pub named : id ≡ node_of (frames_of old.sent) e
+    pub leading : Option Leading
+    pub tells : Tells acts (node_at acts old.nodes id) (group_of e) leading
+    pub olds : List KeptGroup
+    pub prepared : IsPreparedFor e groups olds
+    pub brought : Brought
+    pub ready : IsReadyFor e olds
+    pub brings : BringsTo olds leading e brought
+    pub count : ℕ
+    pub so_many : HasSent (frames_of old.sent) (group_of e) count
+    pub hears : IsHeardOf acts new.nodes (frames_of new.sent) id (group_of recorded.event) count recorded.event recorded.outcome brought olds news
+
+  -- the lists are kept, and each grew
+  pub record IsKept (new : ClusterValue N) (groups news : List KeptGroup) : Type 0 where
+    pub keeps : KeepsLists rules acts states new.nodes (frames_of new.sent) new.history news
+    pub grows : OnlyGrow (lists_of groups) (lists_of news)
+
+  pub stepped : (old : ClusterValue N) (e : ClusterEvent) (new : ClusterValue N) (groups : List KeptGroup) (recorded : Recorded) (news : List KeptGroup) → IsSteppedSo old e new groups recorded news
+      → KeepsLists rules acts states old.nodes (frames_of old.sent) old.history groups → IsKept new groups news
+  stepped old e new groups recorded news so keeps =
+      let o = so.step.outcome in
+      let before = prepared_keeps old.nodes (frames_of old.sent) old.history e groups so.olds so.prepared keeps in
+      let H : Recorded → Type 0 = λ r. IsHeardOf acts new.nodes (frames_of new.sent) so.id (group_of r.event) so.count r.event r.outcome so.brought so.olds news in
+      let hears : IsHeardOf acts new.nodes (frames_of new.sent) so.id (group_of e) so.count e o so.brought so.olds news = subst H so.last so.hears in
+      let K : List Recorded → Type 0 = λ h. KeepsLists rules acts states new.nodes (frames_of new.sent) h news in
+      record {
+        keeps = subst K (sym so.step.history) (step_keeps old.nodes (frames_of old.sent) old.history e o new.nodes (frames_of new.sent) so.step.happens so.olds news so.id so.named so.leading so.tells so.brought so.ready so.brings so.count so.so_many hears before);
+        grows = grow_on (lists_of groups) (lists_of so.olds) (lists_of news) (same_grow (lists_of groups) (lists_of so.olds) (prepared_lists e groups so.olds so.prepared))
+            (step_grows old.nodes (frames_of old.sent) old.history e o new.nodes (frames_of new.sent) so.step.happens so.olds news so.id so.named so.leading so.tells so.brought so.ready so.brings so.count so.so_many hears before);
+      }

@@ -1,9 +1,9 @@
 -- Lists that go on, and what is the same of what is kept of a group.
-use Rattle.std.proofs.Common.{◌≡◌, ℕ, List, Some, length, arith, sym, subst}
-use Rattle.std.specs.Prelude.{Contains}
+use Rattle.std.proofs.Common.{◌≡◌, ℕ, List, [], ◌∷◌, ◌++◌, Some, length, arith, sym, ap, ◌∙◌, subst, length-append}
+use Rattle.std.specs.Prelude.{◌-◌, Contains, slice_get}
 use Rattle.raft_group_step.specs.Values.{Entry, Membership}
 use Rattle.raft_laws.specs.BallotLists.{AgreeBelow}
-use Rattle.raft_laws.proofs.BallotAgreement.{agree_more, agree_refl}
+use Rattle.raft_laws.proofs.BallotAgreement.{agree_more, agree_refl, same_some, slice_get_end}
 use Rattle.raft_machines.specs.Machine.{MachineRules}
 use Rattle.raft_headline.specs.ClusterEvent.{Recorded as PlainRecord}
 use Rattle.raft_cluster_laws.specs.Kept.{Candidates}
@@ -22,6 +22,12 @@ front_of_same xs ys same = subst (AgreeBelow (length xs) xs) (sym same) (agree_r
 
 pub same_grow : (one two : Lists) → ((h : ℕ) → two h ≡ one h) → OnlyGrow one two
 same_grow one two same h = front_of_same (one h) (two h) (same h)
+
+-- the last of a list to whose end one was added
+pub last_is : {A : Type 0} (xs ys : List A) (x y : A) → ys ≡ xs ++ y ∷ [] → Some x ≡ slice_get ys (length ys - 1) → x ≡ y
+last_is xs ys x y added last =
+    let end : length (xs ++ y ∷ []) - 1 ≡ length xs = omega (arith, length-append xs (y ∷ [])) in
+    same_some (last ∙ ap (λ l. slice_get l (length l - 1)) added ∙ ap (slice_get (xs ++ y ∷ [])) end ∙ slice_get_end xs y)
 
 -- ---- notes
 

@@ -32,7 +32,8 @@ module _ {N : Type 0} (acts : NodeActs N) where
       IsHeard (acts.id node) (acts.leads node) event outcome accepted brought olds news
 
   -- behind the event, its node and its group's frames
-  pub record IsHeardOf (nodes : List N) (sent : Sent) (id group : Option ℕ) (count : ℕ) (event : ClusterEvent) (outcome : EventOutcome) (brought : Brought) (olds news : List KeptGroup) : Type 0 where
+  pub record IsHeardOf (nodes : List N) (sent : Sent) (id group : Option ℕ) (count : ℕ) (event : ClusterEvent) (outcome : EventOutcome)
+      (brought : Brought) (olds news : List KeptGroup) : Type 0 where
     pub accepted : Option Acceptance
     pub accepts : AcceptsSince sent group count accepted
     pub heard : IsHeardBy (node_at acts nodes id) event outcome accepted brought olds news

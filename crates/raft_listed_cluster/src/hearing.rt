@@ -58,7 +58,7 @@ fn accepted_since<N: ClusterNode>(
 
 /// The lists go on with an event behind which the cluster is this. It was for the node of this id, and
 /// so many frames were sent in its group before it. What has no node was turned away, and isn't heard.
-pub fn hear<N: ClusterNode>(
+pub fn hear_step<N: ClusterNode>(
     cluster: &Cluster<N>,
     lists: &mut ClusterLists,
     id: Option<u64>,

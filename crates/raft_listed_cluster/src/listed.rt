@@ -9,7 +9,7 @@ ghost use Rattle.raft_cluster.specs.Joined.{ids_of};
 ghost use Rattle.raft_cluster.specs.Told.{told_at};
 ghost use Rattle.raft_listed_cluster.specs.Listed.{HasLists, OnlyGrow, lists_of};
 
-use crate::hearing::{hear, leading_at, sent_in};
+use crate::hearing::{hear_step, leading_at, sent_in};
 use raft_cluster::Cluster;
 use raft_cluster_events::{ClusterEvent, ClusterNode, Recorded};
 use raft_cluster_lists::{ClusterLists, group_of};
@@ -66,7 +66,7 @@ impl<N: ClusterNode> ListedCluster<N> {
         ensures ok { OnOk result (Steps N.acts self.old.cluster event self.new.cluster) }
         ensures err { OnErr result (self.new.cluster ≡ self.old.cluster) }
         ensures err_lists { OnErr result ((group : ℕ) → lists_of self.new.groups group ≡ lists_of self.old.groups group) }
-        ensures lists { KeepsLaw N.Machine.rules N.acts N.states → HasLists N.Machine.rules N.acts N.states self.new.cluster.nodes (frames_of self.new.cluster.sent) self.new.cluster.history (lists_of self.new.groups) }
+        ensures lists { KeepsLaw N.Machine.rules N.acts N.states → HasLists N.Machine.rules N.acts N.states self.new }
         ensures grow { KeepsLaw N.Machine.rules N.acts N.states → OnlyGrow (lists_of self.old.groups) (lists_of self.new.groups) }
     {
         let id = self.cluster.node_of(&event);
@@ -76,7 +76,7 @@ impl<N: ClusterNode> ListedCluster<N> {
         let count = sent_in(&self.cluster, group);
         self.cluster.step(event)?;
         if let Some(recorded) = self.cluster.history().last() {
-            hear(&self.cluster, &mut self.lists, id, count, recorded, brought);
+            hear_step(&self.cluster, &mut self.lists, id, count, recorded, brought);
         }
         Ok(())
     }
@@ -87,7 +87,7 @@ impl<N: ClusterNode> ListedCluster<N> {
     pub fn run(&mut self, events: Vec<ClusterEvent>) -> usize
         ensures within { result ≤ vec_len events }
         ensures runs { Runs N.acts self.old.cluster (take result events.items) self.new.cluster }
-        ensures lists { KeepsLaw N.Machine.rules N.acts N.states → HasLists N.Machine.rules N.acts N.states self.new.cluster.nodes (frames_of self.new.cluster.sent) self.new.cluster.history (lists_of self.new.groups) }
+        ensures lists { KeepsLaw N.Machine.rules N.acts N.states → HasLists N.Machine.rules N.acts N.states self.new }
         ensures grow { KeepsLaw N.Machine.rules N.acts N.states → OnlyGrow (lists_of self.old.groups) (lists_of self.new.groups) }
     {
         let mut count = 0;
@@ -106,7 +106,7 @@ impl<N: ClusterNode> ListedCluster<N> {
     /// nodes keep their law, the lists are those of which the headline speaks.
     pub fn replays(&self)
         ensures reached { IsReached N.acts self.now.cluster.nodes (frames_of self.now.cluster.sent) self.now.cluster.history }
-        ensures lists { KeepsLaw N.Machine.rules N.acts N.states → HasLists N.Machine.rules N.acts N.states self.now.cluster.nodes (frames_of self.now.cluster.sent) self.now.cluster.history (lists_of self.now.groups) }
+        ensures lists { KeepsLaw N.Machine.rules N.acts N.states → HasLists N.Machine.rules N.acts N.states self.now }
     {
         self.cluster.replays();
     }
@@ -114,7 +114,7 @@ impl<N: ClusterNode> ListedCluster<N> {
     /// How many entries the group's list has.
     pub fn list_len(&self, group: u64) -> usize
         ensures length { result ≡ length (lists_of self.now.groups group) }
-        ensures lists { KeepsLaw N.Machine.rules N.acts N.states → HasLists N.Machine.rules N.acts N.states self.now.cluster.nodes (frames_of self.now.cluster.sent) self.now.cluster.history (lists_of self.now.groups) }
+        ensures lists { KeepsLaw N.Machine.rules N.acts N.states → HasLists N.Machine.rules N.acts N.states self.now }
     {
         self.lists.list_len(group)
     }
@@ -122,7 +122,7 @@ impl<N: ClusterNode> ListedCluster<N> {
     /// The entry at this place of the group's list, lent; none past its end. The first stands at 0.
     pub fn entry(&self, group: u64, place: usize) -> Option<&Entry<u64, BasicNode, Bytes>>
         ensures entry { option_copied result ≡ slice_get (lists_of self.now.groups group) place }
-        ensures lists { KeepsLaw N.Machine.rules N.acts N.states → HasLists N.Machine.rules N.acts N.states self.now.cluster.nodes (frames_of self.now.cluster.sent) self.now.cluster.history (lists_of self.now.groups) }
+        ensures lists { KeepsLaw N.Machine.rules N.acts N.states → HasLists N.Machine.rules N.acts N.states self.now }
     {
         self.lists.entry(group, place)
     }

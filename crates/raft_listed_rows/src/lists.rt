@@ -99,6 +99,11 @@ impl Lists {
         };
         self.cluster.step(event)?;
         let outcome = self.outcome()?;
-        format!(in self.alloc; "{} |{} |{}", outcome.trim_end(), self.list(7)?, self.list(8)?)
+        format!(in self.alloc;
+            "{} |{} |{}",
+            outcome.trim_end(),
+            self.list(7)?,
+            self.list(8)?
+        )
     }
 }
