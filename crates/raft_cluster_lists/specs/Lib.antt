@@ -4,3 +4,4 @@ pub mod Groups
 pub mod Hearing
 pub mod Keeping
 pub mod Lists
+pub mod Places
