@@ -1,5 +1,5 @@
 -- One event more: what is kept of each group goes on with what was heard of it.
-use Rattle.std.proofs.Common.{◌≡◌, ◌⊎◌, inl, inr, ℕ, eqb, Bool, true, false, cond, List, [], ◌∷◌, ◌++◌, Option, Some, None, drop, length, refl, sym, ap, ◌∙◌, subst, arith, eqb-true}
+use Rattle.std.proofs.Common.{◌≡◌, ℕ, cond, List, [], ◌∷◌, ◌++◌, Option, Some, None, drop, length, refl, sym, ap, ◌∙◌, subst}
 use Rattle.std.proofs.lemmas.Bool.{eq-eqb}
 use Rattle.std.specs.List.{AllZip}
 use Rattle.raft_group_step.specs.Message.{Message}
@@ -34,7 +34,6 @@ use Rattle.raft_cluster_lists.specs.GoingOn.{IsCallOf, IsOfOthers, IsOpeningOf, 
 use Rattle.raft_cluster_lists.specs.Groups.{GoesOnByCall, GoesOnByOpening}
 use Rattle.raft_cluster_lists.specs.Hearing.{IsOpening, group_of}
 use Rattle.raft_cluster_lists.specs.Keeping.{GoesOn, GroupNotes, KeepsList, list_in}
-use Rattle.raft_cluster_lists.specs.Lists.{stopped_at}
 use Rattle.raft_cluster_lists.proofs.EventsOn.{away_goes_on, events_go_on}
 use Rattle.raft_cluster_lists.proofs.ListsKept.{events_keep_lists, lists_grow}
 use Rattle.raft_cluster.specs.Facts.{Sent, node_in}

@@ -5,7 +5,7 @@ use Rattle.raft_laws.specs.OneList.{AreNodeIds}
 use Rattle.raft_machines.specs.Machine.{MachineRules}
 use Rattle.raft_headline.specs.ClusterEvent.{Recorded as PlainRecord}
 use Rattle.raft_cluster_laws.specs.Kept.{Candidates}
-use Rattle.raft_group_lists.specs.Notes.{accounts_of, no_notes}
+use Rattle.raft_group_lists.specs.Notes.{no_notes}
 use Rattle.raft_cluster_events.specs.declared.event.ClusterEvent.{ClusterEvent}
 use Rattle.raft_cluster_lists.specs.declared.kept.KeptGroup.{KeptGroup}
 use Rattle.raft_cluster_lists.specs.Groups.{IsBegunFor, IsPreparedFor, IsSameGroup, KeepsOn, entries_of, kept_in}

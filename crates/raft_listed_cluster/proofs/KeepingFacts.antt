@@ -1,11 +1,9 @@
 -- What the type keeps from step to step, and what that gives.
-use Rattle.std.proofs.Common.{◌≡◌, ◌⊎◌, inl, inr, ℕ, List, [], ◌∷◌, ◌++◌, Option, Some, None, drop, length, refl, sym, ap, ◌∙◌, subst}
-use Rattle.raft_group_step.specs.Values.{Entry, Membership}
+use Rattle.std.proofs.Common.{◌≡◌, ◌⊎◌, inl, inr, ℕ, List, [], ◌∷◌, ◌++◌, Option, Some, None, drop, length, sym, ap, ◌∙◌, subst}
+use Rattle.raft_group_step.specs.Values.{Entry}
 use Rattle.raft_laws.specs.BallotLists.{AgreeBelow}
-use Rattle.raft_laws.specs.Settled.{group_list}
 use Rattle.raft_machines.specs.Machine.{MachineRules}
 use Rattle.raft_sent_frames.specs.Frames.{first_accepted, frames_of}
-use Rattle.raft_list_facts.specs.declared.acceptance.Acceptance.{Acceptance}
 use Rattle.raft_list_facts.specs.declared.leading.Leading.{Leading}
 use Rattle.raft_cluster_events.specs.declared.event.ClusterEvent.{ClusterEvent}
 use Rattle.raft_cluster_events.specs.declared.outcome.EventOutcome.{EventOutcome}
@@ -20,7 +18,7 @@ use Rattle.raft_cluster_lists.specs.Hearing.{group_of}
 use Rattle.raft_cluster_lists.specs.Keeping.{list_in}
 use Rattle.raft_cluster_lists.proofs.ListsKept.{kept_lists_are_the_groups}
 use Rattle.raft_cluster.specs.Cluster.{ClusterValue, Happens, Reaches, Steps, nothing_sent}
-use Rattle.raft_cluster.specs.Facts.{Sent, node_at, node_in, node_of}
+use Rattle.raft_cluster.specs.Facts.{Sent, node_at, node_of}
 use Rattle.raft_cluster.specs.Joined.{downs_of, ids_of}
 use Rattle.raft_cluster.proofs.ClusterLemmas.{runs_on}
 use Rattle.raft_cluster.proofs.EventLemmas.{one_more}

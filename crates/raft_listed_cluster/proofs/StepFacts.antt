@@ -1,7 +1,7 @@
 -- A step of a cluster keeps the list of each group, which only grows.
-use Rattle.std.proofs.Common.{◌≡◌, ◌⊎◌, inl, inr, ℕ, eqb, Bool, true, false, List, [], ◌∷◌, ◌++◌, Option, Some, None, drop, length, refl, sym, ap, ◌∙◌, subst, ⊎_elim}
+use Rattle.std.proofs.Common.{◌≡◌, ◌⊎◌, inl, inr, ℕ, List, [], ◌∷◌, ◌++◌, Option, Some, None, drop, length, refl, sym, ap, subst, ⊎_elim}
 use Rattle.std.proofs.lemmas.Bool.Decides.{eqb_tells}
-use Rattle.raft_group_step.specs.Values.{EntryPayload, Membership}
+use Rattle.raft_group_step.specs.Values.{Membership}
 use Rattle.raft_laws.specs.BallotLists.{AgreeBelow}
 use Rattle.raft_machines.specs.Machine.{MachineRules}
 use Rattle.raft_cluster_conditions.specs.declared.reasons.ClusterRefusal.{ClusterRefusal}
@@ -22,14 +22,13 @@ use Rattle.raft_cluster_lists.specs.declared.kept.KeptGroup.{KeptGroup}
 use Rattle.raft_cluster_lists.specs.Brought.{Brings}
 use Rattle.raft_cluster_lists.specs.Groups.{BringsTo, GoesOnByCall, GoesOnByOpening, IsHeard, IsReadyFor, IsSameGroup, KeepsOn, kept_in}
 use Rattle.raft_cluster_lists.specs.Hearing.{HearsOf, IsKeptUntilDone, IsOpening, group_of, opening_report, report_of, stopped_behind}
-use Rattle.raft_cluster_lists.specs.Keeping.{GroupNotes, list_in}
-use Rattle.raft_cluster_lists.specs.Lists.{AreSame, stopped_at}
+use Rattle.raft_cluster_lists.specs.Keeping.{list_in}
+use Rattle.raft_cluster_lists.specs.Lists.{stopped_at}
 use Rattle.raft_cluster.specs.Facts.{Sent}
 use Rattle.raft_cluster.proofs.JoinLemmas.{IsOneMore, IsToldSoFar}
 use Rattle.raft_cluster.proofs.PlainLemmas.{first_set_up}
 use Rattle.raft_listed_cluster.specs.Keeping.{noted_with, notes_of}
-use Rattle.raft_listed_cluster.proofs.EventFacts.{IsKeptOn, KeptBefore, KeptBehind, away_on, call_on, none_on, opening_on, other_on}
-use Rattle.raft_listed_cluster.proofs.GroupFacts.{same_list}
+use Rattle.raft_listed_cluster.proofs.EventFacts.{IsKeptOn, KeptBefore, away_on, call_on, none_on, opening_on, other_on}
 use Rattle.raft_listed_cluster.proofs.HappeningFacts.{IsAway, IsNodeOf}
 use Rattle.raft_listed_cluster.proofs.ListFacts.{same_kept}
 use Rattle.raft_listed_cluster.proofs.SetUpFacts.{asked_still}

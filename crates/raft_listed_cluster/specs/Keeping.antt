@@ -1,5 +1,5 @@
 -- What the type of a cluster keeps that has the list of each group.
-use Rattle.std.specs.Prelude.{◌≡◌, ℕ, List, [], ◌∷◌, Option, Some, None}
+use Rattle.std.specs.Prelude.{ℕ, List, [], ◌∷◌, Option, Some, None}
 use Rattle.std.specs.List.{AllByRecursion}
 use Rattle.raft_group_step.specs.Values.{Membership}
 use Rattle.raft_machines.specs.Machine.{MachineRules}

@@ -1,8 +1,7 @@
-use Rattle.std.proofs.Common.{◌≡◌, ℕ, Option, Result, Ok, Err, refl, sym, ap, ◌∙◌, subst}
+use Rattle.std.proofs.Common.{◌≡◌, ℕ, Option, Result, Ok, Err, sym, ◌∙◌, subst}
 use Rattle.std.specs.Prelude.{OnErr}
 use Rattle.raft_sent_frames.specs.Frames.{frames_of}
 use Rattle.raft_node_laws.specs.Law.{KeepsLaw}
-use Rattle.raft_cluster_lists.specs.Hearing.{group_of}
 use Rattle.raft_cluster.specs.Cluster.{ClusterValue}
 use Rattle.raft_cluster.specs.Facts.{node_at}
 use Rattle.raft_listed_cluster.specs.Hearing.{HasSent, Tells}
