@@ -8,3 +8,6 @@ pub mod HaltsOn
 pub mod OthersOn
 pub mod EventsOn
 pub mod StopLemmas
+pub mod PlaceLemmas
+pub mod EachLemmas
+pub mod GroupLemmas

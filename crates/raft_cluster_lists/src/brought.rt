@@ -1,9 +1,9 @@
 //! What an event brings to the list of its group, copied before it.
-ghost use Rattle.std.specs.Prelude.{◌≡◌, None, IfOk, MatchOption};
+ghost use Rattle.std.specs.Prelude.{◌≡◌, ◌↔◌, None, IfOk, IsTrue, MatchOption};
 ghost use Rattle.raft_group_lists.specs.Notes.{accounts_of, membership_in};
 ghost use Rattle.raft_list_reports.specs.Calls.{IsWrittenBy};
 ghost use Rattle.raft_cluster_lists.specs.Brought.{Brings, IsAskedBy, IsChangedBy, IsNothing};
-ghost use Rattle.raft_cluster_lists.specs.Hearing.{group_of};
+ghost use Rattle.raft_cluster_lists.specs.Hearing.{IsOpening, group_of};
 
 use raft_cluster_events::{ClusterEvent, GroupCommand, Leading};
 use raft_conditions::changed_membership;
@@ -37,6 +37,13 @@ pub fn group_of(event: &ClusterEvent) -> Option<u64>
         | ClusterEvent::Crash { .. }
         | ClusterEvent::Reopen { .. } => None,
     }
+}
+
+// Whether the event opens its node.
+pub(crate) fn is_opening(event: &ClusterEvent) -> bool
+    ensures { IsTrue result ↔ IsOpening event.now }
+{
+    matches!(event, ClusterEvent::Reopen { .. })
 }
 
 // The same voter groups.
@@ -107,7 +114,7 @@ fn written_by(
 }
 
 // Nothing.
-fn nothing() -> Brought
+pub(crate) fn nothing() -> Brought
     ensures { IsNothing result }
 {
     Brought {

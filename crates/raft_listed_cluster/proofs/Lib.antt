@@ -1,0 +1,9 @@
+pub mod ListFacts
+pub mod FrameFacts
+pub mod SetUpFacts
+pub mod GroupFacts
+pub mod HappeningFacts
+pub mod EventFacts
+pub mod StepFacts
+pub mod BeginFacts
+pub mod KeepingFacts

@@ -1,0 +1,10 @@
+//! A cluster that keeps the list of each group as it runs: all that was chosen there.
+#![tactic(auto)]
+
+mod hearing;
+mod listed;
+
+pub use listed::ListedCluster;
+pub use raft_cluster::{
+    ClusterEvent, ClusterNode, ClusterRefusal, CrashChoice, EventOutcome, Recorded,
+};
