@@ -1,7 +1,8 @@
 //! A cluster with the list of each group.
-ghost use Rattle.std.specs.Prelude.{◌≡◌, ◌≤◌, ℕ, [], length, slice_get, take, IfOk, OnOk, OnErr, vec_len};
+ghost use Rattle.std.specs.Prelude.{◌≡◌, ◌≤◌, ℕ, [], length, slice_get, take, IfOk, MatchOption, OnOk, OnErr, vec_len};
 ghost use Rattle.std.specs.Option.{option_copied};
 ghost use Rattle.raft_sent_frames.specs.Frames.{frames_of};
+ghost use Rattle.raft_group_lists.specs.Notes.{accounts_of};
 ghost use Rattle.raft_node_laws.specs.Law.{KeepsLaw};
 ghost use Rattle.raft_cluster.specs.Cluster.{IsReached, Runs, Steps};
 ghost use Rattle.raft_cluster.specs.Facts.{node_in, node_of};
@@ -13,6 +14,7 @@ use crate::hearing::{hear_step, leading_at, sent_in};
 use raft_cluster::Cluster;
 use raft_cluster_events::{ClusterEvent, ClusterNode, Recorded};
 use raft_cluster_lists::{ClusterLists, group_of};
+use raft_group_lists::GroupList;
 use raft_machines::Told;
 use raft_sent_frames::SentFrame;
 use raft_state::{BasicNode, Bytes, Entry};
@@ -109,6 +111,15 @@ impl<N: ClusterNode> ListedCluster<N> {
         ensures lists { KeepsLaw N.Machine.rules N.acts N.states → HasLists N.Machine.rules N.acts N.states self.now }
     {
         self.cluster.replays();
+    }
+
+    /// The group's list, lent: its entries by their places. None where no event of the group came yet.
+    pub fn list(&self, group: u64) -> Option<&GroupList>
+        ensures list { MatchOption (option_copied result) (lists_of self.now.groups group ≡ []) (λ kept. lists_of self.now.groups group ≡ (accounts_of kept.notes).list) }
+        ensures lists { KeepsLaw N.Machine.rules N.acts N.states → HasLists N.Machine.rules N.acts N.states self.now }
+    {
+        let kept = self.lists.get(group)?;
+        Some(&kept.list)
     }
 
     /// How many entries the group's list has.
