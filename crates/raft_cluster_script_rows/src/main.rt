@@ -2,15 +2,18 @@
 //! such line are its text; how it ends is printed behind its answers. A line `each 1 1000 LINE` stands
 //! for a thousand lines, with each number from 1 on in place of `%`. Where a name ends in `, counted`,
 //! each answer is printed once, by rising text, with how often it came. The first token that one tells
-//! is left out of it, and its words behind the eighth are counted. Before all that a list of events is
-//! run at once.
+//! is left out of it, and its words behind the eighth are counted. Where it ends in `, listed` the script
+//! runs on a cluster with lists, and each answer has the entries behind it that are new there. Before all
+//! that a list of events is run at once.
 #![tactic(auto)]
 
 mod counted;
+mod lists;
 mod many;
 mod run_rows;
 
 use counted::print_counted;
+use lists::print_listed;
 use many::push_lines;
 use raft_cluster_script::{ScriptEnd, run_script};
 use raft_machines::AddingMachine;
@@ -45,6 +48,9 @@ fn print_run(rt: &HostRuntime, name: Option<&str>, script: &[u8]) -> io::Result<
         return Ok(());
     };
     println!(rt; "== {name}")?;
+    if name.ends_with(", listed") {
+        return print_listed(rt, str::from_utf8(script).unwrap_or("no UTF-8"));
+    }
     let Ok(Answered { written, end }) = run(rt.alloc(), script) else {
         return println!(rt; "no memory");
     };

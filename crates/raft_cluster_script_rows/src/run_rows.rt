@@ -1,8 +1,8 @@
 //! A list of events that is run at once on nodes with files.
 
-use raft_cluster::Cluster;
 use raft_cluster_events::{ClusterEvent, EventOutcome, GroupCommand, Recorded};
 use raft_group_step::GroupCall;
+use raft_listed_cluster::ListedCluster;
 use raft_machines::AddingMachine;
 use raft_nodes_on_files::{FileNode, log_settings, run_on_files};
 use raft_state::{Bytes, Membership};
@@ -34,7 +34,7 @@ fn events(alloc: Global) -> Result<Vec<ClusterEvent>, AllocError> {
 }
 
 // A run behind a function without clauses: a proof that carries them takes long.
-fn run(cluster: &mut Cluster<FileNode<AddingMachine>>, events: Vec<ClusterEvent>) -> usize {
+fn run(cluster: &mut ListedCluster<FileNode<AddingMachine>>, events: Vec<ClusterEvent>) -> usize {
     run_on_files(cluster, events)
 }
 
@@ -50,7 +50,7 @@ fn word(recorded: &Recorded) -> &'static str {
 // What the events told for a group.
 fn told_text(
     alloc: Global,
-    cluster: &Cluster<FileNode<AddingMachine>>,
+    cluster: &ListedCluster<FileNode<AddingMachine>>,
     group: u64,
 ) -> Result<String, AllocError> {
     let mut text = format!(in alloc; "; told for {group}:")?;
@@ -66,7 +66,7 @@ fn told_text(
 /// Runs the events by `run_on_files`, and says how many happened, what came of each, and what they told.
 pub fn run_rows(alloc: Global) -> Result<String, AllocError> {
     let settings = log_settings(alloc, "raft", 64, 256)?;
-    let mut cluster = Cluster::<FileNode<AddingMachine>>::new(alloc, &[1], &settings)?;
+    let mut cluster = ListedCluster::<FileNode<AddingMachine>>::new(alloc, &[1], &settings)?;
     let events = events(alloc)?;
     let asked = events.len();
     let count = run(&mut cluster, events);
