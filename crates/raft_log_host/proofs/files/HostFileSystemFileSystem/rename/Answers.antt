@@ -14,4 +14,4 @@ invariant_of-self-in_default-rename c =
 
 pub returns-in-Err-clause-cause : goal.returns-in-Err-clause-cause
 returns-in-Err-clause-cause c =
-    rw (← c.self.view_is) (passed_on _ _ _ _ _ _ c.in-Err.fault _ c.in-Err.ensures.cause c.fault_of.ensures.fault c.fault_of.ensures.counted c.in-Err.ensures.cause.reads)
+    rw (← c.self.view_is) (passed_on _ _ _ _ _ _ c.in-Err.fault _ c.in-Err.ensures.cause c.fault_of.ensures.fault c.fault_of.ensures.counted c.in-Err.ensures.cause.lacks c.in-Err.ensures.cause.reads)
