@@ -1,3 +1,4 @@
 pub mod Causes
+pub mod Loaded
 pub mod Mirrored
 pub mod Torn

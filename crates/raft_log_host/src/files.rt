@@ -1,7 +1,11 @@
 //! Files that are both in memory and on the disk.
-ghost use Rattle.std.specs.Prelude.{⊤, ◌≡◌, ◌+◌, ◌-◌, ◌^◌, min, true, false, is_some, Err};
-ghost use Rattle.raft_log_disk.specs.Cause.{counted};
+ghost use Rattle.std.specs.Prelude.{⊤, ◌≡◌, ◌⊎◌, ◌+◌, ◌-◌, ◌^◌, min, true, false, is_some, Err, OnErr, OnOk};
+ghost use Rattle.raft_log_disk.specs.Cause.{HasCause, IsOneCall, UnlessRefused, counted};
+ghost use Rattle.raft_log_disk.specs.Disk.{IsFile, IsIn, IsNoFile, after_make_dir, after_sync, with_file};
+ghost use Rattle.raft_log_disk.specs.MemorySystem.{is_bounded_in};
 ghost use Rattle.raft_log_disk.specs.declared.fault.IoFault.TheVariants.{Refused};
+ghost use Rattle.raft_log_host.specs.Loading.{HasOnlyLoaded};
+ghost use Rattle.raft_log_host.specs.Mirror.{host_disk, host_meter};
 
 use crate::host::Host;
 use raft_log_disk::{Fd, FileSystem, IoFault, MemoryFileSystem, Permission};
@@ -148,7 +152,15 @@ impl FileSystem for HostFileSystem {
         Ok(())
     }
 
-    fn make_dir(&mut self, path: &str) -> Result<(), IoFault> {
+    fn make_dir(&mut self, path: &str) -> Result<(), IoFault>
+        ensures ok { OnOk result (IsIn path.now (host_disk self.new).directories) }
+        ensures dirs { (host_disk self.new ≡ host_disk self.old) ⊎ ((IsIn path.now (host_disk self.old).directories → ⊥) × (host_disk self.new ≡ after_make_dir (host_disk self.old) path.now)) }
+        ensures unchanged { UnlessRefused result (OnErr result (host_disk self.new ≡ host_disk self.old)) }
+        ensures cause { HasCause ⊥ ⊥ (host_meter self.old) (host_meter self.new) result }
+        ensures call { IsOneCall (IsFile (host_disk self.old) path.now) (host_meter self.old) (host_meter self.new) result }
+        ensures bound { is_bounded_in self.new.memory → is_bounded_in self.old.memory }
+        ensures loads { HasOnlyLoaded self.old.events → HasOnlyLoaded self.new.events }
+    {
         if self.cause.is_some() {
             return Err(refuse(&mut self.refusals));
         }
@@ -204,7 +216,14 @@ impl FileSystem for HostFileSystem {
         Ok(())
     }
 
-    fn sync(&mut self, fd: Fd) -> Result<(), IoFault> {
+    fn sync(&mut self, fd: Fd) -> Result<(), IoFault>
+        ensures ok { OnOk result (host_disk self.new ≡ with_file (host_disk self.old) fd.0 (after_sync ((host_disk self.old).file fd.0))) }
+        ensures err { OnErr result (host_disk self.new ≡ host_disk self.old) }
+        ensures cause { HasCause (IsNoFile (host_disk self.old) fd.0) ⊥ (host_meter self.old) (host_meter self.new) result }
+        ensures call { IsOneCall ⊥ (host_meter self.old) (host_meter self.new) result }
+        ensures bound { is_bounded_in self.new.memory → is_bounded_in self.old.memory }
+        ensures loads { HasOnlyLoaded self.old.events → HasOnlyLoaded self.new.events }
+    {
         if self.cause.is_some() {
             return Err(refuse(&mut self.refusals));
         }

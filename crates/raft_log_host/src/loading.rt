@@ -1,4 +1,7 @@
 //! Files of the directory are loaded into memory.
+ghost use Rattle.std.specs.Prelude.{◌≡◌};
+ghost use Rattle.raft_log_host.specs.Loading.{HasOnlyLoaded};
+
 use crate::files::{HostFileSystem, fault_of, refuse};
 use crate::pieces::piece_len;
 use raft_log_disk::{Fd, FileSystem, IoFault};
@@ -8,7 +11,9 @@ use std::io;
 
 impl HostFileSystem {
     // The file of a path, which the system has, gets the next number. It has no bytes in memory yet.
-    fn adopt(&mut self, path: &str) -> Result<Fd, IoFault> {
+    fn adopt(&mut self, path: &str) -> Result<Fd, IoFault>
+        ensures loads { HasOnlyLoaded self.old.events → HasOnlyLoaded self.new.events }
+    {
         if self.cause.is_some() || self.memory.is_file(path) {
             return Err(refuse(&mut self.refusals));
         }
@@ -24,7 +29,9 @@ impl HostFileSystem {
     }
 
     // The next bytes that the system has of the file come behind those in memory.
-    fn adopt_next(&mut self, fd: Fd, len: usize) -> Result<(), IoFault> {
+    fn adopt_next(&mut self, fd: Fd, len: usize) -> Result<(), IoFault>
+        ensures loads { HasOnlyLoaded self.old.events → HasOnlyLoaded self.new.events }
+    {
         if self.cause.is_some() {
             return Err(refuse(&mut self.refusals));
         }
@@ -48,7 +55,9 @@ impl HostFileSystem {
     }
 
     // The bytes that the system has of a file, to find its records.
-    fn peek(&mut self, fd: Fd) -> Result<Vec<u8>, IoFault> {
+    fn peek(&mut self, fd: Fd) -> Result<Vec<u8>, IoFault>
+        ensures same { self.new.events ≡ self.old.events }
+    {
         let found = match self.host.len(fd.0) {
             Ok(len) => self.host.peek(fd.0, len as usize),
             Err(cause) => Err(cause),
@@ -63,13 +72,9 @@ impl HostFileSystem {
     }
 
     // Each piece of the file comes into memory by a call of its own.
-    fn adopt_all(
-        &mut self,
-        alloc: Global,
-        fd: Fd,
-        id: FileId,
-        bytes: &[u8],
-    ) -> Result<(), IoFault> {
+    fn adopt_all(&mut self, alloc: Global, fd: Fd, id: FileId, bytes: &[u8]) -> Result<(), IoFault>
+        ensures loads { HasOnlyLoaded self.old.events → HasOnlyLoaded self.new.events }
+    {
         let mut at = 0;
         while at < bytes.len() {
             let len = piece_len(alloc, id, bytes, at)?;
@@ -80,7 +85,9 @@ impl HostFileSystem {
     }
 
     /// The log file of a path is loaded, and synced.
-    pub(crate) fn load(&mut self, alloc: Global, path: &str, id: FileId) -> Result<(), IoFault> {
+    pub(crate) fn load(&mut self, alloc: Global, path: &str, id: FileId) -> Result<(), IoFault>
+        ensures loads { HasOnlyLoaded self.old.events → HasOnlyLoaded self.new.events }
+    {
         let fd = self.adopt(path)?;
         let bytes = self.peek(fd)?;
         self.adopt_all(alloc, fd, id, bytes.as_slice())?;

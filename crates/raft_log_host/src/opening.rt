@@ -1,5 +1,6 @@
 //! A directory is opened: it is locked, and its log files are loaded.
 ghost use Rattle.std.specs.Prelude.{◌≡◌, IfOk, false};
+ghost use Rattle.raft_log_host.specs.Loading.{HasOnlyLoaded};
 ghost use Rattle.raft_log_host.specs.Mirror.{Replays, host_disk};
 
 use crate::files::HostFileSystem;
@@ -109,12 +110,9 @@ fn log_names(rt: &HostRuntime, directory: &str) -> io::Result<Vec<String>> {
 
 impl HostFileSystem {
     // The directory and its log files come into memory.
-    fn load_all(
-        &mut self,
-        alloc: Global,
-        directory: &str,
-        names: &[String],
-    ) -> Result<(), IoFault> {
+    fn load_all(&mut self, alloc: Global, directory: &str, names: &[String]) -> Result<(), IoFault>
+        ensures loads { HasOnlyLoaded self.old.events → HasOnlyLoaded self.new.events }
+    {
         self.make_dir(directory)?;
         for name in names {
             if let Some(id) = FileId::parse_file_name(name.as_str()) {
@@ -126,10 +124,12 @@ impl HostFileSystem {
     }
 
     /// The files of a directory, which belongs to this node alone and is locked (own). It is made, if it
-    /// is not there. Each log file is synced before it is read, so that what reads see is on the disk.
+    /// is not there. Each log file is synced before it is read, so that what reads see is on the disk. No
+    /// file that is there is changed, and those of other names are passed over.
     pub fn open(rt: HostRuntime, directory: &str, owner: u64) -> Result<HostFileSystem, OpenError>
         ensures sound { IfOk result (λ f. f.has_failed ≡ false) }
         ensures mirror { IfOk result (λ f. Replays f.events (host_disk f)) }
+        ensures loads { IfOk result (λ f. HasOnlyLoaded f.events) }
     {
         make_directory(&rt, directory)?;
         let file = lock(&rt, directory)?;
