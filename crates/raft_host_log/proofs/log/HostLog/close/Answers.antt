@@ -5,6 +5,8 @@ use Rattle.raft_log_disk.specs.Text.{Text}
 use Rattle.raft_log_engine.specs.Reopened.{OpensInTail}
 use Rattle.raft_log_engine.proofs.Logs.{found_closed}
 use Rattle.raft_host_log.proofs.AsRead.{found_as_read}
+use denote.Param.Send.{sendable}
+use Rattle.raft_log_host.proofs.Sent.{files_sent, files_shared}
 use Rattle.raft_host_log.proofs.log.HostLog.close.Goals as goal
 
 pub returns-in-Ok-clause-opens : goal.returns-in-Ok-clause-opens
@@ -73,3 +75,9 @@ returns-in-Err-clause-opens_in_tail c =
     let m = c.self.inside in
     rw (← c.self.view_is) (subst (λ (l : List Text). OpensInTail l (host_disk c.in-Err.refused.files) m.engine.pipes) inv.directories
     (c.in-Err.ensures.opens_in_tail (inv.sound going).goes_on (inv.alone going)))
+
+pub close-requires-send-F : goal.close-requires-send-F
+close-requires-send-F c κs = search (sendable, files_sent)
+
+pub close-requires-sync-F : goal.close-requires-sync-F
+close-requires-sync-F c κs = search (sendable, files_shared)

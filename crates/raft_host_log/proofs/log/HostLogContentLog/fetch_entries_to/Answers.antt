@@ -7,6 +7,8 @@ use Rattle.raft_log_engine.specs.Held.{Parts}
 use Rattle.raft_log_engine.specs.Left.{answers_on}
 use Rattle.raft_log_engine.proofs.Crashes.{log_on}
 use Rattle.raft_log_engine.proofs.Fetched.{all_read}
+use denote.Param.Send.{sendable}
+use Rattle.raft_log_host.proofs.Sent.{files_sent, files_shared}
 use Rattle.raft_host_log.proofs.log.HostLogContentLog.fetch_entries_to.Goals as goal
 
 pub invariant_of-self : goal.invariant_of-self
@@ -32,3 +34,9 @@ returns-clause-entries c =
     let all = c.in_ok-found.found.items in
     let len : length all ≡ c.args.end - c.args.begin = search rules in
     rw (← c.self.view_is) (λ sound. all_read (answers_on host_disk c.self.inside.engine c.args.group) c.args.begin c.args.end (payloads all) c.in_ok-found.ensures.found (length-map all (λ v. v.items) ∙ len))
+
+pub fetch_entries_to-requires-send-F : goal.fetch_entries_to-requires-send-F
+fetch_entries_to-requires-send-F c κs = search (sendable, files_sent)
+
+pub fetch_entries_to-requires-sync-F : goal.fetch_entries_to-requires-sync-F
+fetch_entries_to-requires-sync-F c κs = search (sendable, files_shared)

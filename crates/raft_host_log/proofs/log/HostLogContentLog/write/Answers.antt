@@ -4,6 +4,8 @@ use Rattle.std.proofs.lemmas.Bool.{false≢true}
 use Rattle.raft_log_host.specs.Mirror.{host_disk}
 use Rattle.raft_log_engine.proofs.Reopened.{same_directories}
 use Rattle.raft_log_engine.proofs.Logs.{is_refused, is_written, refused_others, written_in_main, written_others}
+use denote.Param.Send.{sendable}
+use Rattle.raft_log_host.proofs.Sent.{files_sent, files_shared}
 use Rattle.raft_host_log.proofs.log.HostLogContentLog.write.Goals as goal
 
 pub invariant_of-self : goal.invariant_of-self
@@ -47,3 +49,9 @@ pub returns-in-Err-clause-others : goal.returns-in-Err-clause-others
 returns-in-Err-clause-others c =
     rw (← c.self.view_is) (refused_others host_disk c.self.inside.settings c.self.inside.engine c.write.new.self c.args.batch.now.items c.self.invariant.directories c.in-Err.ensures.paths c.self.inside.has_failed c.if-self.false
     (c.in-Err.ensures.opens_either (c.self.invariant.sound c.if-self.false) (c.self.invariant.alone c.if-self.false)))
+
+pub write-requires-send-F : goal.write-requires-send-F
+write-requires-send-F c κs = search (sendable, files_sent)
+
+pub write-requires-sync-F : goal.write-requires-sync-F
+write-requires-sync-F c κs = search (sendable, files_shared)
