@@ -154,7 +154,8 @@ impl FileSystem for HostFileSystem {
 
     fn make_dir(&mut self, path: &str) -> Result<(), IoFault>
         ensures ok { OnOk result (IsIn path.now (host_disk self.new).directories) }
-        ensures dirs { (host_disk self.new ≡ host_disk self.old) ⊎ ((IsIn path.now (host_disk self.old).directories → ⊥) × (host_disk self.new ≡ after_make_dir (host_disk self.old) path.now)) }
+        ensures dirs { (host_disk self.new ≡ host_disk self.old)
+            ⊎ ((IsIn path.now (host_disk self.old).directories → ⊥) × (host_disk self.new ≡ after_make_dir (host_disk self.old) path.now)) }
         ensures unchanged { UnlessRefused result (OnErr result (host_disk self.new ≡ host_disk self.old)) }
         ensures cause { HasCause ⊥ ⊥ (host_meter self.old) (host_meter self.new) result }
         ensures call { IsOneCall (IsFile (host_disk self.old) path.now) (host_meter self.old) (host_meter self.new) result }

@@ -1,5 +1,5 @@
 -- The text of what a node answers.
-use Rattle.std.specs.Prelude.{ℕ, List, [], ◌∷◌, ◌++◌, codes, drop, map}
+use Rattle.std.specs.Prelude.{None, ℕ, List, [], ◌++◌, codes, drop, map}
 use Rattle.std.specs.Fmt.{decimal}
 use Rattle.std.specs.List.{flat_map}
 use Rattle.hex.specs.Hex.{encode_lower}
@@ -8,6 +8,7 @@ use Rattle.raft_cluster_events.specs.declared.outcome.GroupOutcome.{GroupOutcome
 use Rattle.raft_cluster_events.specs.declared.outcome.StopCause.TheVariants.{Other}
 use Rattle.raft_cluster_script.specs.Answers.{outcome_text}
 use Rattle.raft_framed_groups.specs.declared.frames.GroupFrame.{GroupFrame}
+use Rattle.raft_machines.specs.declared.telling.UnknownTokens.{UnknownTokens}
 use Rattle.raft_node.specs.declared.outcome.Outcome.{Outcome}
 use Rattle.raft_node_faults.specs.Fault.{name_of, number_of}
 use Rattle.raft_node_faults.specs.declared.fault.Fault.{Fault}
@@ -40,11 +41,18 @@ told_text outcomes = drop 2 (outcome_text (Done (map without_frames outcomes)))
 abbrev pub done_text : List Outcome → List ℕ
 done_text outcomes = codes "ok" ++ sent_text outcomes ++ told_text outcomes
 
+-- a stop, with the tokens that stay unknown
+abbrev pub stop_text : List UnknownTokens → List ℕ
+stop_text unknown = outcome_text (Stopped (record { cause = Other; unsaid = None; unknown = unknown }))
+
 -- a refusal by its number and name
+abbrev pub named_text : {F : Type 0} → Fault F → List ℕ
+named_text why = codes "refused " ++ decimal (number_of why) ++ codes " " ++ name_of why ++ newline
+
 abbrev pub fault_text : {F : Type 0} → Fault F → List ℕ
-fault_text (fault.Stopped cause unknown) = outcome_text (Stopped (record { cause = Other; unsaid = None; unknown = unknown.items }))
+fault_text (fault.Stopped cause unknown) = stop_text unknown.items
 fault_text (fault.NotLeader leader) = refused_text (shown.NotLeader leader) []
-fault_text why = codes "refused " ++ decimal (number_of why) ++ codes " " ++ name_of why ++ newline
+fault_text why = named_text why
 
 -- a storage that isn't opened
 abbrev pub unopened_text : HomeRefusal → List ℕ

@@ -1,22 +1,26 @@
 //! The text of what a node answers.
-ghost use Rattle.std.specs.Prelude.{◌≡◌, ◌++◌, IfOk, OnOk, codes, map, string_bytes};
-ghost use Rattle.raft_node_script.specs.Answers.{done_text, fault_text, frame_text, frames_text, sent_text, told_text, unopened_text, without_frames};
+ghost use Rattle.std.specs.Prelude.{◌≡◌, ◌++◌, IfOk, OnOk, drop, map, string_bytes};
+ghost use Rattle.raft_node_script.specs.Answers.{done_text, fault_text, frame_text, frames_text, named_text, sent_text, stop_text, told_text, unopened_text, without_frames};
 
 use crate::home::HomeRefusal;
+use itoa::Buffer;
 use raft_cluster_events::{EventOutcome, GroupOutcome, Sequence, Stop, StopCause};
 use raft_cluster_script::outcome_text;
 use raft_framed_groups::GroupFrame;
-use raft_node::{Fault, Outcome};
+use raft_node::{Fault, Outcome, UnknownTokens};
 use raft_script_answers::{Refusal, refused_text};
 use std::alloc::{AllocError, Global};
 
-// A frame with its bytes.
-fn frame_text(alloc: Global, frame: &GroupFrame) -> Result<String, AllocError>
-    ensures { IfOk result (λ text. string_bytes text ≡ frame_text frame.now) }
+// The text, and a frame with its bytes behind it.
+fn push_frame(alloc: Global, text: &mut String, frame: &GroupFrame) -> Result<(), AllocError>
+    ensures { OnOk result (string_bytes text.new ≡ string_bytes text.old ++ frame_text frame.now) }
 {
-    let peer = frame.addressee;
+    let mut digits = Buffer::new();
     let bytes = hex::encode(alloc, frame.bytes.as_slice())?;
-    format!(in alloc; " >{peer}:{bytes}")
+    text.push_str(" >")?;
+    text.push_str(digits.format(frame.addressee))?;
+    text.push_str(":")?;
+    text.push_str(bytes.as_str())
 }
 
 // The text, and the frames behind it.
@@ -24,8 +28,7 @@ fn push_frames(alloc: Global, text: &mut String, frames: &[GroupFrame]) -> Resul
     ensures { OnOk result (string_bytes text.new ≡ string_bytes text.old ++ frames_text frames.now) }
 {
     for frame in frames {
-        let one = frame_text(alloc, frame)?;
-        text.push_str(one.as_str())?;
+        push_frame(alloc, text, frame)?;
     }
     Ok(())
 }
@@ -78,23 +81,41 @@ pub fn done_text(alloc: Global, outcomes: Vec<Outcome>) -> Result<String, AllocE
     Ok(text)
 }
 
+// A refusal by its number and name.
+fn named_text<F>(alloc: Global, fault: &Fault<F>) -> Result<String, AllocError>
+    ensures { IfOk result (λ text. string_bytes text ≡ named_text fault.now) }
+{
+    let mut digits = Buffer::new();
+    let mut text = String::from_str(alloc, "refused ")?;
+    text.push_str(digits.format(fault.number()))?;
+    text.push_str(" ")?;
+    text.push_str(fault.name())?;
+    text.push_str("\n")?;
+    Ok(text)
+}
+
+// A stop, with the tokens that stay unknown.
+fn stop_text(alloc: Global, unknown: Vec<UnknownTokens>) -> Result<String, AllocError>
+    ensures { IfOk result (λ text. string_bytes text ≡ stop_text unknown.items) }
+{
+    outcome_text(
+        alloc,
+        &EventOutcome::Stopped(Stop {
+            cause: StopCause::Other,
+            unsaid: None,
+            unknown: Sequence::from_vec(unknown),
+        }),
+    )
+}
+
 /// Why a call isn't done, with the tokens that stay unknown behind a stop (own).
 pub fn fault_text<F: Drop>(alloc: Global, fault: Fault<F>) -> Result<String, AllocError>
     ensures { IfOk result (λ text. string_bytes text ≡ fault_text fault) }
 {
-    let number = fault.number();
-    let name = fault.name();
     match fault {
-        Fault::Stopped { cause: _, unknown } => outcome_text(
-            alloc,
-            &EventOutcome::Stopped(Stop {
-                cause: StopCause::Other,
-                unsaid: None,
-                unknown: Sequence::from_vec(unknown),
-            }),
-        ),
+        Fault::Stopped { cause: _, unknown } => stop_text(alloc, unknown),
         Fault::NotLeader { leader } => refused_text(alloc, Refusal::NotLeader { leader }, &[]),
-        _ => format!(in alloc; "refused {number} {name}\n"),
+        other => named_text(alloc, &other),
     }
 }
 
