@@ -1,0 +1,42 @@
+-- A read changes nothing that is said of a log.
+use Rattle.std.proofs.Common.{◌≡◌, ◌-◌, ap, length, rules, ◌∙◌}
+use Rattle.std.proofs.lemmas.List.{length-map}
+use Rattle.raft_log_host.specs.Mirror.{OnHost, host_disk}
+use Rattle.raft_log_records.specs.Batch.{payloads}
+use Rattle.raft_log_engine.specs.Held.{Parts}
+use Rattle.raft_log_engine.specs.Left.{answers_on}
+use Rattle.raft_log_engine.proofs.Crashes.{log_on}
+use Rattle.raft_log_engine.proofs.Fetched.{all_read}
+use denote.Param.Send.{sendable}
+use Rattle.raft_log_host.proofs.Sent.{files_sent, files_shared}
+use Rattle.raft_host_log.proofs.log.HostLogContentLog.fetch_entries_to.Goals as goal
+
+pub invariant_of-self : goal.invariant_of-self
+invariant_of-self c =
+    let same = c.in_err-found.ensures.same in
+    log_on host_disk c.self.inside.settings c.self.inside.has_failed c.self.inside.engine c.fetch_entries_to.new.self c.self.invariant (ap (λ (e : Parts OnHost). e.pipes) same) (ap (λ (e : Parts OnHost). e.is_stopped) same)
+    (ap (λ (e : Parts OnHost). e.wrote_unsynced) same) (ap (λ (e : Parts OnHost). host_disk e.files) same)
+
+pub invariant_of-self-then-len-saturating_sub : goal.invariant_of-self-then-len-saturating_sub
+invariant_of-self-then-len-saturating_sub c =
+    let same = c.in_ok-found.ensures.same in
+    log_on host_disk c.self.inside.settings c.self.inside.has_failed c.self.inside.engine c.fetch_entries_to.new.self c.self.invariant (ap (λ (e : Parts OnHost). e.pipes) same) (ap (λ (e : Parts OnHost). e.is_stopped) same)
+    (ap (λ (e : Parts OnHost). e.wrote_unsynced) same) (ap (λ (e : Parts OnHost). host_disk e.files) same)
+
+pub invariant_of-self-2 : goal.invariant_of-self-2
+invariant_of-self-2 c =
+    let same = c.in_ok-found.ensures.same in
+    log_on host_disk c.self.inside.settings c.self.inside.has_failed c.self.inside.engine c.fetch_entries_to.new.self c.self.invariant (ap (λ (e : Parts OnHost). e.pipes) same) (ap (λ (e : Parts OnHost). e.is_stopped) same)
+    (ap (λ (e : Parts OnHost). e.wrote_unsynced) same) (ap (λ (e : Parts OnHost). host_disk e.files) same)
+
+pub returns-clause-entries : goal.returns-clause-entries
+returns-clause-entries c =
+    let all = c.in_ok-found.found.items in
+    let len : length all ≡ c.args.end - c.args.begin = search rules in
+    rw (← c.self.view_is) (λ sound. all_read (answers_on host_disk c.self.inside.engine c.args.group) c.args.begin c.args.end (payloads all) c.in_ok-found.ensures.found (length-map all (λ v. v.items) ∙ len))
+
+pub fetch_entries_to-requires-send-F : goal.fetch_entries_to-requires-send-F
+fetch_entries_to-requires-send-F c κs = search (sendable, files_sent)
+
+pub fetch_entries_to-requires-sync-F : goal.fetch_entries_to-requires-sync-F
+fetch_entries_to-requires-sync-F c κs = search (sendable, files_shared)

@@ -1,0 +1,6 @@
+//! A log of batches over the files of one directory on a real disk.
+#![tactic(auto)]
+
+mod log;
+
+pub use log::{HostFiles, HostLog};

@@ -1,0 +1,5 @@
+pub mod Causes
+pub mod Loaded
+pub mod Mirrored
+pub mod Sent
+pub mod Torn

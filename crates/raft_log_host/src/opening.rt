@@ -1,0 +1,169 @@
+//! A directory is opened: it is locked, and its log files are loaded.
+ghost use Rattle.std.specs.Prelude.{◌≡◌, IfOk, false};
+ghost use Rattle.raft_log_host.specs.Loading.{HasOnlyLoaded};
+ghost use Rattle.raft_log_host.specs.Mirror.{Replays, host_disk};
+
+use crate::files::HostFileSystem;
+use crate::host::Host;
+use raft_log_disk::{FileSystem, IoFault, MemoryFileSystem};
+use raft_log_files::FileNameExt;
+use raft_log_records::FileId;
+use std::alloc::{AllocError, Global};
+use std::fs::{OpenOptions, TryLockError};
+use std::io::{ErrorKind, Read};
+use std::os::unix::fs::FileExt;
+use std::{fs, io};
+use thiserror::Error;
+
+/// Why a directory isn't opened (own).
+#[derive(Debug, Drop, Error)]
+pub enum OpenError {
+    /// The system refused a call.
+    #[error("{0}")]
+    Io(io::Error),
+    /// Another process has it open.
+    #[error("another process has the directory open")]
+    InUse,
+    /// It belongs to a node of another id.
+    #[error("the directory belongs to another node")]
+    OtherOwner,
+    #[error("out of memory")]
+    Memory,
+}
+
+impl From<io::Error> for OpenError {
+    fn from(error: io::Error) -> OpenError {
+        OpenError::Io(error)
+    }
+}
+
+impl From<AllocError> for OpenError {
+    fn from(_: AllocError) -> OpenError {
+        OpenError::Memory
+    }
+}
+
+// The directory, if it is not there. What holds it has to be.
+fn make_directory(rt: &HostRuntime, directory: &str) -> io::Result<()> {
+    match fs::create_dir(rt, directory) {
+        Ok(()) => {
+            let folder = directory.rsplit_once('/').map_or(".", |parts| parts.0);
+            fs::File::open(rt, folder)?.sync_all()
+        }
+        Err(error) if error.kind() == ErrorKind::AlreadyExists => Ok(()),
+        Err(error) => Err(error),
+    }
+}
+
+// The file `LOCK` of the directory. No other process gets it as long as it is open.
+fn lock(rt: &HostRuntime, directory: &str) -> Result<fs::File, OpenError> {
+    let path = format!(in rt.alloc(); "{directory}/LOCK")?;
+    let file = OpenOptions::new()
+        .read(true)
+        .write(true)
+        .create(true)
+        .open(rt, path.as_str())?;
+    match file.try_lock() {
+        Ok(()) => Ok(file),
+        Err(TryLockError::WouldBlock) => Err(OpenError::InUse),
+        Err(TryLockError::Error(error)) => Err(OpenError::Io(error)),
+    }
+}
+
+// The directory belongs to this node from now on, and to no other before.
+fn claim(rt: &HostRuntime, directory: &str, file: &fs::File, owner: u64) -> Result<(), OpenError> {
+    let mut known = String::new(rt.alloc());
+    let mut reader = file;
+    reader.read_to_string(&mut known)?;
+    let name = format!(in rt.alloc(); "{owner}\n")?;
+    if known.ends_with('\n') {
+        return if known.as_str() == name.as_str() {
+            Ok(())
+        } else {
+            Err(OpenError::OtherOwner)
+        };
+    }
+    // A line that isn't whole was cut off before anything else was written.
+    file.write_all_at(name.as_bytes(), 0)?;
+    file.sync_all()?;
+    fs::File::open(rt, directory)?.sync_all()?;
+    Ok(())
+}
+
+// The names of the log files in the directory, rising. Others are passed over.
+fn log_names(rt: &HostRuntime, directory: &str) -> io::Result<Vec<String>> {
+    let mut names = Vec::new(rt.alloc());
+    for entry in fs::read_dir(rt, directory)? {
+        match entry {
+            Ok(entry) => {
+                if FileId::parse_file_name(entry.file_name()).is_some() {
+                    names.push(String::from_str(rt.alloc(), entry.file_name())?)?;
+                }
+            }
+            Err(error) if error.kind() == ErrorKind::InvalidFilename => {}
+            Err(error) => return Err(error),
+        }
+    }
+    names.sort()?;
+    Ok(names)
+}
+
+impl HostFileSystem {
+    // The directory and its log files come into memory.
+    fn load_all(&mut self, alloc: Global, directory: &str, names: &[String]) -> Result<(), IoFault>
+        ensures loads { HasOnlyLoaded self.old.events → HasOnlyLoaded self.new.events }
+    {
+        self.make_dir(directory)?;
+        for name in names {
+            if let Some(id) = FileId::parse_file_name(name.as_str()) {
+                let path = format!(in alloc; "{directory}/{name}")?;
+                self.load(alloc, path.as_str(), id)?;
+            }
+        }
+        Ok(())
+    }
+
+    /// The files of a directory, which belongs to this node alone and is locked (own). It is made, if it
+    /// is not there. Each log file is synced before it is read, so that what reads see is on the disk. No
+    /// file that is there is changed, and those of other names are passed over.
+    pub fn open(rt: HostRuntime, directory: &str, owner: u64) -> Result<HostFileSystem, OpenError>
+        ensures sound { IfOk result (λ f. f.has_failed ≡ false) }
+        ensures mirror { IfOk result (λ f. Replays f.events (host_disk f)) }
+        ensures loads { IfOk result (λ f. HasOnlyLoaded f.events) }
+    {
+        make_directory(&rt, directory)?;
+        let file = lock(&rt, directory)?;
+        claim(&rt, directory, &file, owner)?;
+        let names = log_names(&rt, directory)?;
+        let mut files = HostFileSystem {
+            memory: MemoryFileSystem::new(rt.alloc()),
+            host: Host::new(rt, file),
+            refusals: 0,
+            cause: None,
+        };
+        match files.load_all(rt.alloc(), directory, names.as_slice()) {
+            Ok(()) => files.if_going(),
+            Err(_) => Err(files.into_cause()),
+        }
+    }
+
+    // The files, unless the system refused a call.
+    fn if_going(self) -> Result<HostFileSystem, OpenError>
+        ensures same { IfOk result (λ f. f ≡ self) }
+        ensures sound { IfOk result (λ f. f.has_failed ≡ false) }
+        ensures mirror { IfOk result (λ f. Replays f.events (host_disk f)) }
+    {
+        if self.cause.is_some() {
+            return Err(self.into_cause());
+        }
+        Ok(self)
+    }
+
+    // Why the files aren't loaded.
+    fn into_cause(self) -> OpenError {
+        match self.cause {
+            Some(cause) => OpenError::Io(cause),
+            None => OpenError::Memory,
+        }
+    }
+}

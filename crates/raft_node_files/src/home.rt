@@ -1,0 +1,88 @@
+//! A node at home in a directory of a disk.
+
+use raft_host_log::{HostFiles, HostLog};
+use raft_log_engine::{EngineFault, NotOpened};
+use raft_log_files::{Config, Error};
+use raft_log_host::{HostFileSystem, OpenError};
+use raft_machines::AddingMachine;
+use raft_node_script::{HomeRefusal, NodeHome};
+use raft_store::Store;
+
+/// The directory of a node (own).
+#[derive(Drop)]
+pub struct DiskHome {
+    /// Reaches the system.
+    pub rt: HostRuntime,
+    /// The node's id: the directory belongs to it alone.
+    pub id: u64,
+    /// The settings of its log. Its files lie in the main directory.
+    pub settings: Config,
+}
+
+impl DiskHome {
+    // Says on standard error why the system refused a call of these files, if it did.
+    fn complain_of(&self, files: &HostFileSystem) {
+        let directory = self.settings.dir.as_str();
+        if let Some(why) = files.cause() {
+            let _ = eprintln!(&self.rt; "raft: {directory}: {why}");
+        }
+    }
+
+    // The files of the directory.
+    fn files(&self) -> Result<HostFileSystem, HomeRefusal> {
+        let directory = self.settings.dir.as_str();
+        match HostFileSystem::open(self.rt, directory, self.id) {
+            Ok(files) => Ok(files),
+            Err(why) => {
+                let _ = eprintln!(&self.rt; "raft: {directory}: {why}");
+                Err(refusal_of(why))
+            }
+        }
+    }
+}
+
+// Why a directory isn't opened.
+fn refusal_of(why: OpenError) -> HomeRefusal {
+    match why {
+        OpenError::Io(_) => HomeRefusal::System,
+        OpenError::InUse => HomeRefusal::InUse,
+        OpenError::OtherOwner => HomeRefusal::OtherNode,
+        OpenError::Memory => HomeRefusal::Memory,
+    }
+}
+
+// Why its log isn't opened.
+fn refusal_of_log(fault: &EngineFault, files: &HostFileSystem) -> HomeRefusal {
+    if files.cause().is_some() {
+        return HomeRefusal::System;
+    }
+    match fault {
+        EngineFault::Log(Error::Memory) => HomeRefusal::Memory,
+        _ => HomeRefusal::Damaged,
+    }
+}
+
+impl NodeHome for DiskHome {
+    type Storage = Store<AddingMachine, HostLog>;
+
+    fn open(&mut self) -> Result<Self::Storage, HomeRefusal> {
+        let alloc = self.rt.alloc();
+        let Ok(settings) = self.settings.clone() else {
+            return Err(HomeRefusal::Memory);
+        };
+        let files = self.files()?;
+        match HostLog::open(alloc, HostFiles { settings, files }) {
+            Ok(log) => Ok(Store::new(alloc, log)),
+            Err(NotOpened { fault, files }) => {
+                let directory = self.settings.dir.as_str();
+                let _ = eprintln!(&self.rt; "raft: {directory}: {fault}");
+                self.complain_of(&files.files);
+                Err(refusal_of_log(&fault, &files.files))
+            }
+        }
+    }
+
+    fn complain(&self, storage: &Self::Storage) {
+        self.complain_of(storage.log().files());
+    }
+}

@@ -1,0 +1,128 @@
+//! The text of what a node answers.
+ghost use Rattle.std.specs.Prelude.{◌≡◌, ◌++◌, IfOk, OnOk, drop, map, string_bytes};
+ghost use Rattle.raft_node_script.specs.Answers.{done_text, fault_text, frame_text, frames_text, named_text, sent_text, stop_text, told_text, unopened_text, without_frames};
+
+use crate::home::HomeRefusal;
+use itoa::Buffer;
+use raft_cluster_events::{EventOutcome, GroupOutcome, Sequence, Stop, StopCause};
+use raft_cluster_script::outcome_text;
+use raft_framed_groups::GroupFrame;
+use raft_node::{Fault, Outcome, UnknownTokens};
+use raft_script_answers::{Refusal, refused_text};
+use std::alloc::{AllocError, Global};
+
+// The text, and a frame with its bytes behind it.
+fn push_frame(alloc: Global, text: &mut String, frame: &GroupFrame) -> Result<(), AllocError>
+    ensures { OnOk result (string_bytes text.new ≡ string_bytes text.old ++ frame_text frame.now) }
+{
+    let mut digits = Buffer::new();
+    let bytes = hex::encode(alloc, frame.bytes.as_slice())?;
+    text.push_str(" >")?;
+    text.push_str(digits.format(frame.addressee))?;
+    text.push_str(":")?;
+    text.push_str(bytes.as_str())
+}
+
+// The text, and the frames behind it.
+fn push_frames(alloc: Global, text: &mut String, frames: &[GroupFrame]) -> Result<(), AllocError>
+    ensures { OnOk result (string_bytes text.new ≡ string_bytes text.old ++ frames_text frames.now) }
+{
+    for frame in frames {
+        push_frame(alloc, text, frame)?;
+    }
+    Ok(())
+}
+
+// The text, and the frames of all outcomes behind it.
+fn push_sent(alloc: Global, text: &mut String, outcomes: &[Outcome]) -> Result<(), AllocError>
+    ensures { OnOk result (string_bytes text.new ≡ string_bytes text.old ++ sent_text outcomes.now) }
+{
+    for outcome in outcomes {
+        push_frames(alloc, text, outcome.frames.as_slice())?;
+    }
+    Ok(())
+}
+
+// The outcomes as a cluster's, without their frames.
+fn parts_of(alloc: Global, outcomes: Vec<Outcome>) -> Result<Sequence<GroupOutcome>, AllocError>
+    ensures { IfOk result (λ parts. parts ≡ map without_frames outcomes.items) }
+{
+    let mut parts = Sequence::new(alloc);
+    for outcome in outcomes {
+        parts.push(GroupOutcome {
+            group: outcome.group,
+            sent: Sequence::new(alloc),
+            told: Sequence::from_vec(outcome.told),
+            unknown: Sequence::from_vec(outcome.unknown),
+        })?;
+    }
+    Ok(parts)
+}
+
+// The text, and behind it what an answer has behind its `ok`.
+fn push_told(text: &mut String, answer: &str) -> Result<(), AllocError>
+    ensures { OnOk result (string_bytes text.new ≡ string_bytes text.old ++ drop 2 answer.now) }
+{
+    match answer.strip_prefix("ok") {
+        Some(rest) => text.push_str(rest),
+        None => Err(AllocError),
+    }
+}
+
+/// What an opening or an event did: its frames, what it told, and the tokens that stay unknown (own).
+pub fn done_text(alloc: Global, outcomes: Vec<Outcome>) -> Result<String, AllocError>
+    ensures { IfOk result (λ text. string_bytes text ≡ done_text outcomes.items) }
+{
+    let mut text = String::from_str(alloc, "ok")?;
+    push_sent(alloc, &mut text, outcomes.as_slice())?;
+    let parts = parts_of(alloc, outcomes)?;
+    let told = outcome_text(alloc, &EventOutcome::Done(parts))?;
+    push_told(&mut text, told.as_str())?;
+    Ok(text)
+}
+
+// A refusal by its number and name.
+fn named_text<F>(alloc: Global, fault: &Fault<F>) -> Result<String, AllocError>
+    ensures { IfOk result (λ text. string_bytes text ≡ named_text fault.now) }
+{
+    let mut digits = Buffer::new();
+    let mut text = String::from_str(alloc, "refused ")?;
+    text.push_str(digits.format(fault.number()))?;
+    text.push_str(" ")?;
+    text.push_str(fault.name())?;
+    text.push_str("\n")?;
+    Ok(text)
+}
+
+// A stop, with the tokens that stay unknown.
+fn stop_text(alloc: Global, unknown: Vec<UnknownTokens>) -> Result<String, AllocError>
+    ensures { IfOk result (λ text. string_bytes text ≡ stop_text unknown.items) }
+{
+    outcome_text(
+        alloc,
+        &EventOutcome::Stopped(Stop {
+            cause: StopCause::Other,
+            unsaid: None,
+            unknown: Sequence::from_vec(unknown),
+        }),
+    )
+}
+
+/// Why a call isn't done, with the tokens that stay unknown behind a stop (own).
+pub fn fault_text<F: Drop>(alloc: Global, fault: Fault<F>) -> Result<String, AllocError>
+    ensures { IfOk result (λ text. string_bytes text ≡ fault_text fault) }
+{
+    match fault {
+        Fault::Stopped { cause: _, unknown } => stop_text(alloc, unknown),
+        Fault::NotLeader { leader } => refused_text(alloc, Refusal::NotLeader { leader }, &[]),
+        other => named_text(alloc, &other),
+    }
+}
+
+/// Why a node's storage isn't opened (own).
+pub fn unopened_text(alloc: Global, why: HomeRefusal) -> Result<String, AllocError>
+    ensures { IfOk result (λ text. string_bytes text ≡ unopened_text why) }
+{
+    let label = why.label();
+    format!(in alloc; "refused {label}\n")
+}

@@ -1,0 +1,154 @@
+//! The lines of a node's script: those of a cluster's script without the node, and `feed`.
+
+use raft_cluster_events::{ClusterEvent, GroupCommand};
+use raft_cluster_script::event_of;
+use raft_script_lines::{ReadLineError, ScriptEvent, ScriptLine, first_word, number_of, read_line};
+use std::alloc::{AllocError, Global};
+use std::str;
+
+/// What a line of a node's script says (own).
+#[derive(Debug, Drop)]
+pub enum NodeLine {
+    /// An empty line, or a comment.
+    Skipped,
+    /// `now T`
+    Now { tick: u64 },
+    /// `total G`
+    Total { group: u64 },
+    /// `add G`
+    Add { group: u64 },
+    /// A call of a group.
+    Ask { group: u64, call: GroupCommand },
+    /// `feed PEER HEX`: these bytes are the next of the peer's stream.
+    Feed { peer: u64, piece: Vec<u8> },
+    /// `reopen WORKERS`: the node is closed, and opened with what is stored.
+    Reopen,
+}
+
+/// A line, and how many tokens were taken behind it.
+#[derive(Debug, Drop)]
+pub struct ReadNodeLine {
+    pub line: NodeLine,
+    pub tokens: u64,
+}
+
+// Whether a line that begins with this word names no node in a cluster's script.
+fn is_of_all(word: &str) -> bool {
+    matches!(word, "" | "now") || word.starts_with('#')
+}
+
+// Whether no line of a node's script begins with this word.
+fn is_foreign(word: &str) -> bool {
+    matches!(word, "nodes" | "deliver" | "clean" | "crash" | "fuse")
+}
+
+// The line with the node behind its first word.
+fn with_node(alloc: Global, node: u64, line: &str) -> Result<String, AllocError> {
+    match first_word(line) {
+        (word, Some(rest)) => format!(in alloc; "{word} {node} {rest}"),
+        (word, None) => format!(in alloc; "{word} {node}"),
+    }
+}
+
+// `PEER HEX`
+fn feed_in(alloc: Global, words: &str) -> Result<Option<NodeLine>, AllocError> {
+    let (peer, Some(digits)) = first_word(words) else {
+        return Ok(None);
+    };
+    let Some(peer) = number_of(peer) else {
+        return Ok(None);
+    };
+    match hex::decode(alloc, digits) {
+        Ok(piece) => Ok(Some(NodeLine::Feed { peer, piece })),
+        Err(hex::FromHexError::OutOfMemory) => Err(AllocError),
+        Err(_) => Ok(None),
+    }
+}
+
+// The event of a cluster as one of its node.
+fn of_node(event: ClusterEvent) -> Option<NodeLine> {
+    match event {
+        ClusterEvent::AddGroup { node: _, group } => Some(NodeLine::Add { group }),
+        ClusterEvent::Ask {
+            node: _,
+            group,
+            call,
+            now: _,
+        } => Some(NodeLine::Ask { group, call }),
+        ClusterEvent::Reopen { .. } => Some(NodeLine::Reopen),
+        _ => None,
+    }
+}
+
+fn tokens_behind(event: &ScriptEvent, tokens: u64) -> u64 {
+    match event {
+        ScriptEvent::Propose { .. } | ScriptEvent::Addr { .. } | ScriptEvent::Voters { .. } => {
+            tokens.saturating_add(1)
+        }
+        _ => tokens,
+    }
+}
+
+// An event of a line.
+fn event_line(
+    alloc: Global,
+    tick: u64,
+    tokens: u64,
+    event: ScriptEvent,
+) -> Result<Option<ReadNodeLine>, AllocError> {
+    let tokens = tokens_behind(&event, tokens);
+    let Some(event) = event_of(alloc, tick, tokens, event)? else {
+        return Ok(None);
+    };
+    Ok(of_node(event).map(|line| ReadNodeLine { line, tokens }))
+}
+
+// What a line of a cluster's script says of this node.
+fn line_in(
+    alloc: Global,
+    tick: u64,
+    tokens: u64,
+    bytes: &[u8],
+) -> Result<Option<ReadNodeLine>, AllocError> {
+    let line = match read_line(alloc, bytes) {
+        Ok(ScriptLine::Skipped) => NodeLine::Skipped,
+        Ok(ScriptLine::Now { tick }) => NodeLine::Now { tick },
+        Ok(ScriptLine::Total { node: _, group }) => NodeLine::Total { group },
+        Ok(ScriptLine::Happens(event)) => return event_line(alloc, tick, tokens, event),
+        Ok(ScriptLine::Nodes { .. } | ScriptLine::Fuse { .. }) => return Ok(None),
+        Err(ReadLineError::NoEvent(_)) => return Ok(None),
+        Err(ReadLineError::Memory) => return Err(AllocError),
+    };
+    Ok(Some(ReadNodeLine { line, tokens }))
+}
+
+/// What the bytes of a line say at this tick, behind so many tokens; none where they are no event of a
+/// node.
+pub fn read_node_line(
+    alloc: Global,
+    node: u64,
+    tick: u64,
+    tokens: u64,
+    bytes: &[u8],
+) -> Result<Option<ReadNodeLine>, AllocError> {
+    let Ok(text) = str::from_utf8(bytes) else {
+        return Ok(None);
+    };
+    let (word, rest) = first_word(text);
+    if is_foreign(word) {
+        return Ok(None);
+    }
+    if is_of_all(word) {
+        return line_in(alloc, tick, tokens, bytes);
+    }
+    match (word, rest) {
+        ("feed", Some(words)) => {
+            let line = feed_in(alloc, words)?;
+            Ok(line.map(|line| ReadNodeLine { line, tokens }))
+        }
+        _ => {
+            let whole = with_node(alloc, node, text)?;
+            line_in(alloc, tick, tokens, whole.as_bytes())
+        }
+    }
+}

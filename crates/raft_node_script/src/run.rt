@@ -1,0 +1,27 @@
+//! Runs the script of a node.
+
+use crate::home::NodeHome;
+use crate::script::NodeScript;
+use raft_script_session::{ScriptEnd, run_lines};
+use std::alloc::Global;
+use std::io::{Read, Write};
+
+/// Opens the node of this id with what is stored at its home, and runs the script that the reader gives
+/// (own). The answer of the opening is written first, and then that of each line, before the next read
+/// waits. Lines, answers and statuses are described in docs/SCRIPT.md, "One node on a disk".
+pub fn run_node_script<H: NodeHome, R: Read, W: Write>(
+    alloc: Global,
+    id: u64,
+    home: H,
+    reader: &mut R,
+    writer: &mut W,
+) -> ScriptEnd {
+    let mut script = NodeScript::new(alloc, id, home);
+    let Ok(text) = script.reopen() else {
+        return ScriptEnd::Memory;
+    };
+    if writer.write_all(text.as_bytes()).is_err() || writer.flush().is_err() {
+        return ScriptEnd::Fault;
+    }
+    run_lines(alloc, &mut script, reader, writer)
+}

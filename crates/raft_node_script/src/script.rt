@@ -1,0 +1,168 @@
+//! How far a node's script has come, and what its next line does.
+
+use crate::answers::{done_text, fault_text, unopened_text};
+use crate::home::NodeHome;
+use crate::lines::{NodeLine, ReadNodeLine, read_node_line};
+use raft_conditions::GroupCommand;
+use raft_group_storage::GroupStorage;
+use raft_machines::AddingMachine;
+use raft_node::{Fault, Fed, Node, NotOpened, Opened, Outcome};
+use raft_script_answers::{AppliedTotal, Refusal, refused_text, total_text};
+use raft_script_session::LineRunner;
+use std::alloc::{AllocError, Global};
+
+/// A node, and what was counted of its script (own).
+#[derive(Drop)]
+pub struct NodeScript<H: NodeHome> {
+    alloc: Global,
+    id: u64,
+    home: H,
+    node: Option<Node<AddingMachine, H::Storage>>,
+    tokens: u64,
+    tick: u64,
+}
+
+impl<H: NodeHome> NodeScript<H> {
+    /// Before the first line the node is down.
+    pub fn new(alloc: Global, id: u64, home: H) -> NodeScript<H> {
+        NodeScript {
+            alloc,
+            id,
+            home,
+            node: None,
+            tokens: 0,
+            tick: 0,
+        }
+    }
+
+    /// The node is opened with what is stored at its home; one that is up is closed before.
+    pub fn reopen(&mut self) -> Result<String, AllocError> {
+        self.node = None;
+        let storage = match self.home.open() {
+            Ok(storage) => storage,
+            Err(why) => return unopened_text(self.alloc, why),
+        };
+        match Node::open(self.alloc, self.id, storage) {
+            Ok(Opened { node, outcomes }) => {
+                self.node = Some(node);
+                done_text(self.alloc, outcomes)
+            }
+            Err(NotOpened { fault, storage }) => {
+                self.home.complain(&storage);
+                fault_text(self.alloc, fault)
+            }
+        }
+    }
+
+    // What an event did, or why it isn't done.
+    fn answered(
+        &mut self,
+        answer: Result<Outcome, Fault<<H::Storage as GroupStorage>::Fault>>,
+    ) -> Result<String, AllocError> {
+        match answer {
+            Ok(outcome) => {
+                let mut outcomes = Vec::new(self.alloc);
+                outcomes.push(outcome)?;
+                done_text(self.alloc, outcomes)
+            }
+            Err(fault) => self.refused(fault),
+        }
+    }
+
+    // Why a call isn't done. A node that has stopped may say more than its number.
+    fn refused(
+        &mut self,
+        fault: Fault<<H::Storage as GroupStorage>::Fault>,
+    ) -> Result<String, AllocError> {
+        if let (Fault::Stopped { .. }, Some(node)) = (&fault, &self.node) {
+            self.home.complain(node.storage());
+        }
+        fault_text(self.alloc, fault)
+    }
+
+    // A node that isn't up takes no event.
+    fn down(&self) -> Result<String, AllocError> {
+        refused_text(self.alloc, Refusal::NodeDown, &[])
+    }
+
+    fn add(&mut self, group: u64) -> Result<String, AllocError> {
+        let Some(node) = &mut self.node else {
+            return self.down();
+        };
+        let answer = node.add_group(group);
+        self.answered(answer)
+    }
+
+    fn ask(&mut self, group: u64, call: &GroupCommand) -> Result<String, AllocError> {
+        let Some(node) = &mut self.node else {
+            return self.down();
+        };
+        let answer = node.call(group, call, self.tick);
+        self.answered(answer)
+    }
+
+    // A piece of a peer's stream comes. Behind one that is no frame the stream begins anew.
+    fn feed(&mut self, peer: u64, piece: &[u8]) -> Result<String, AllocError> {
+        let Some(node) = &mut self.node else {
+            return self.down();
+        };
+        let Fed {
+            outcomes,
+            fault,
+            used: _,
+        } = node.feed(peer, piece, self.tick);
+        if let Some(Fault::Frame(_)) = &fault {
+            let _ = node.reset_peer(peer);
+        }
+        match fault {
+            Some(fault) => self.refused(fault),
+            None => done_text(self.alloc, outcomes),
+        }
+    }
+
+    fn total(&self, group: u64) -> Result<String, AllocError> {
+        total_text(self.alloc, self.applied(group))
+    }
+
+    // What the group's machine has added up, if the node is up and has the group.
+    fn applied(&self, group: u64) -> Option<AppliedTotal> {
+        let node = self.node.as_ref()?;
+        let total = node.machine(group)?.total();
+        let place = node.applied(group);
+        Some(AppliedTotal { total, place })
+    }
+
+    fn set_now(&mut self, tick: u64) -> Result<String, AllocError> {
+        let text = String::from_str(self.alloc, "ok\n")?;
+        self.tick = tick;
+        Ok(text)
+    }
+
+    // Runs a line.
+    fn take(&mut self, line: NodeLine) -> Result<String, AllocError> {
+        match line {
+            NodeLine::Skipped => Ok(String::new(self.alloc)),
+            NodeLine::Now { tick } => self.set_now(tick),
+            NodeLine::Total { group } => self.total(group),
+            NodeLine::Add { group } => self.add(group),
+            NodeLine::Ask { group, call } => self.ask(group, &call),
+            NodeLine::Feed { peer, piece } => self.feed(peer, piece.as_slice()),
+            NodeLine::Reopen => self.reopen(),
+        }
+    }
+}
+
+impl<H: NodeHome> LineRunner for NodeScript<H> {
+    ghost runs = { λ _ _ _ _. Unit {0} };
+
+    fn run_line(&mut self, line: &[u8]) -> Result<Option<String>, AllocError> {
+        match read_node_line(self.alloc, self.id, self.tick, self.tokens, line)? {
+            Some(ReadNodeLine { line, tokens }) => {
+                let text = self.take(line)?;
+                self.tokens = tokens;
+                Ok(Some(text))
+            }
+            None => Ok(None),
+        }
+    }
+}
