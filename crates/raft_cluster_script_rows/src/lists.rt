@@ -13,6 +13,7 @@ use std::io;
 
 // The first group whose list is shown, and the one behind the last.
 const FIRST: u64 = 7;
+
 const END: u64 = 10;
 
 // A cluster, and how long each list was.
