@@ -12,24 +12,27 @@
 //!   a time: how many were asked for at most, and how many were given;
 //! - `status`: the exit status of a script that finds no memory;
 //! - `session ROW`: such a row, where a session answers each line by its length, by `line` and its
-//!   number where it is `!`, and finds no memory where it is `?`.
+//!   number where it is `!`, and finds no memory where it is `?`;
+//! - `node DIGITS ROW`: such a row of a node alone, each opening of which finds nothing. A digit from 1
+//!   to 5 has one be refused as S1 to S5, the last digit the first one.
 #![tactic(auto)]
 
 mod broken;
+mod homes;
 mod sessions;
 
 use broken::{Flushed, Piecewise, Stubborn};
 use percent_encoding::percent_decode;
 use raft_script_session::ScriptEnd;
-use sessions::run_by;
+use sessions::{Runner, run_by};
 use std::alloc::{AllocError, Global};
 use std::io;
 
-/// A line of the input, and whether a session counts its script's lines.
+/// A line of the input, and what runs its script.
 #[derive(Clone, Copy)]
 struct Row<'a> {
     line: &'a str,
-    counts: bool,
+    runner: Runner,
 }
 
 /// The bytes that a script's text stands for.
@@ -69,7 +72,7 @@ fn print_end(rt: &impl Print, row: Row<'_>, end: ScriptEnd, written: &[u8]) -> i
 fn run(rt: &HostRuntime, row: Row<'_>, script: &[u8]) -> io::Result<()> {
     let mut reader = script;
     let mut writer = Vec::new(rt.alloc());
-    let end = run_by(rt.alloc(), row.counts, &mut reader, &mut writer);
+    let end = run_by(rt.alloc(), row.runner, &mut reader, &mut writer);
     print_end(rt, row, end, writer.as_slice())
 }
 
@@ -80,7 +83,7 @@ fn run_in_pieces(rt: &HostRuntime, row: Row<'_>, words: &str) -> io::Result<()> 
     let script = bytes_of(rt.alloc(), text)?;
     let mut reader = Piecewise::new(script.as_slice(), piece, read);
     let mut writer = Stubborn::new(rt.alloc(), piece, room);
-    let end = run_by(rt.alloc(), row.counts, &mut reader, &mut writer);
+    let end = run_by(rt.alloc(), row.runner, &mut reader, &mut writer);
     print_end(rt, row, end, writer.written())
 }
 
@@ -90,7 +93,7 @@ fn run_flushed(rt: &HostRuntime, row: Row<'_>, words: &str) -> io::Result<()> {
     let script = bytes_of(rt.alloc(), text)?;
     let mut reader = Piecewise::new(script.as_slice(), piece, read);
     let mut writer = Flushed::new(rt.alloc());
-    let end = run_by(rt.alloc(), row.counts, &mut reader, &mut writer);
+    let end = run_by(rt.alloc(), row.runner, &mut reader, &mut writer);
     print_end(rt, row, end, writer.written())
 }
 
@@ -100,17 +103,27 @@ fn run_counted(rt: &HostRuntime, row: Row<'_>, words: &str) -> io::Result<()> {
     let script = with_comment(rt.alloc(), length, &[])?;
     let mut reader = Piecewise::new(script.as_slice(), piece, usize::MAX);
     let mut writer = Vec::new(rt.alloc());
-    let end = run_by(rt.alloc(), row.counts, &mut reader, &mut writer);
+    let end = run_by(rt.alloc(), row.runner, &mut reader, &mut writer);
     let (given, most) = (reader.given(), reader.most());
     println!(rt; "{} -> {end:?} {given} of at most {most}", row.line)
 }
 
-fn answer(rt: &HostRuntime, line: &str) -> io::Result<()> {
-    let (counts, text) = match line.strip_prefix("session ") {
-        Some(text) => (true, text),
-        None => (false, line),
+/// What runs the row's script, and the row behind that.
+fn runner_of(line: &str) -> (Runner, &str) {
+    if let Some(text) = line.strip_prefix("session ") {
+        return (Runner::Lengths, text);
+    }
+    let Some(words) = line.strip_prefix("node ") else {
+        return (Runner::Nodes, line);
     };
-    let row = Row { line, counts };
+    let (digits, text) = words.split_once(' ').unwrap_or((words, ""));
+    let refusals = digits.parse().unwrap_or(0);
+    (Runner::Node { refusals }, text)
+}
+
+fn answer(rt: &HostRuntime, line: &str) -> io::Result<()> {
+    let (runner, text) = runner_of(line);
+    let row = Row { line, runner };
     let (call, words) = text.split_once(' ').unwrap_or((text, ""));
     match call {
         "run" => run(rt, row, bytes_of(rt.alloc(), words)?.as_slice()),

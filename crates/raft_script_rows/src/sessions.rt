@@ -1,10 +1,23 @@
-//! Scripts whose lines nodes on files run, or a session over lines that are only counted.
+//! Scripts whose lines nodes on files run, or one node, or a session over lines that are only counted.
+use crate::homes::EmptyHome;
 use raft_cluster_script::run_script;
 use raft_machines::AddingMachine;
+use raft_node_script::run_node_script;
 use raft_nodes_on_files::{FileNode, log_settings};
 use raft_script_session::{LineRunner, ScriptEnd, run_lines};
 use std::alloc::{AllocError, Global};
 use std::io::{Read, Write};
+
+/// What runs a script's lines.
+#[derive(Clone, Copy)]
+pub enum Runner {
+    /// Nodes on files in memory.
+    Nodes,
+    /// Node 1 alone, the openings of which the digits refuse.
+    Node { refusals: u64 },
+    /// Nothing: lines are counted.
+    Lengths,
+}
 
 /// Answers each line by its length; `!` is no event, and `?` finds no memory.
 #[derive(Drop)]
@@ -24,19 +37,24 @@ impl LineRunner for Lengths {
     }
 }
 
-/// Runs the script that the reader gives, by a session over counted lines or by nodes on files.
+/// Runs the script that the reader gives.
 pub fn run_by<R: Read, W: Write>(
     alloc: Global,
-    counts: bool,
+    runner: Runner,
     reader: &mut R,
     writer: &mut W,
 ) -> ScriptEnd {
-    if counts {
-        let mut lines = Lengths { alloc };
-        return run_lines(alloc, &mut lines, reader, writer);
+    match runner {
+        Runner::Nodes => match log_settings(alloc, "raft", 64, 256) {
+            Ok(settings) => {
+                run_script::<FileNode<AddingMachine>, _, _>(alloc, settings, reader, writer)
+            }
+            Err(_) => ScriptEnd::Memory,
+        },
+        Runner::Node { refusals } => {
+            let home = EmptyHome::new(alloc, refusals);
+            run_node_script(alloc, 1, home, reader, writer)
+        }
+        Runner::Lengths => run_lines(alloc, &mut Lengths { alloc }, reader, writer),
     }
-    let Ok(settings) = log_settings(alloc, "raft", 64, 256) else {
-        return ScriptEnd::Memory;
-    };
-    run_script::<FileNode<AddingMachine>, _, _>(alloc, settings, reader, writer)
 }
