@@ -1,5 +1,6 @@
 -- The invariant of two queues and of memtables, and what keeps it.
-use Rattle.std.specs.Prelude.{◌≡◌, ◌⊎◌, ◌≤◌, ◌<◌, ◌+◌, ℕ, true, false, if◌then◌else◌, nat_eq, nat_le, List, [], ◌∷◌, ◌++◌, length, IsSome, Option, Some, None, drop}
+use Rattle.std.specs.Prelude.{◌≡◌, ◌⊎◌, ◌≤◌, ◌<◌, ◌+◌, ℕ, true, false, if◌then◌else◌, nat_eq}
+use Rattle.std.specs.Prelude.{nat_le, List, [], ◌∷◌, ◌++◌, length, IsSome, Option, Some, None, drop}
 use Rattle.raft_log_records.specs.Item.{Item}
 use Rattle.raft_log_records.specs.Item.Change.{entries, clean, put}
 use Rattle.raft_log_records.specs.Spelling.{first_index}

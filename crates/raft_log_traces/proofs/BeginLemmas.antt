@@ -56,8 +56,8 @@ by_greater {P} m n k e f g = by_test (nat_lt m n) refl e
     by_test true h q = f (q, ltb-true m n h)
     by_test false h q = g (q, ltb-false m n h)
 
-pub rewritten_below : (floor next begin end : ℕ) (runs : List Run) → BeginAt begin next runs → end ≡ greater floor begin → (i : ℕ) → i < end → file_above floor runs i ≡ None
-rewritten_below floor next begin end runs b e i h = by_test (nat_lt i floor) refl
+pub end_below : (floor next begin end : ℕ) (runs : List Run) → BeginAt begin next runs → end ≡ greater floor begin → (i : ℕ) → i < end → file_above floor runs i ≡ None
+end_below floor next begin end runs b e i h = by_test (nat_lt i floor) refl
   where
     by_test : (t : Bool) → nat_lt i floor ≡ t → cond t None (file_in runs i) ≡ None
     by_test true k = refl
@@ -65,8 +65,8 @@ rewritten_below floor next begin end runs b e i h = by_test (nat_lt i floor) ref
         let l = ltb-false i floor k in
         b.below i (by_greater floor begin end e (λ p. let q = p.0 in omega (arith, q, h)) (λ p. let q = p.0 in absurd (omega (arith, q, h, l))))
 
-pub rewritten_above : (floor next begin end : ℕ) (runs : List Run) → BeginAt begin next runs → end ≡ greater floor begin → (i : ℕ) → end ≤ i → i < next → IsSome (file_above floor runs i)
-rewritten_above floor next begin end runs b e i h m = by_test (nat_lt i floor) refl
+pub end_above : (floor next begin end : ℕ) (runs : List Run) → BeginAt begin next runs → end ≡ greater floor begin → (i : ℕ) → end ≤ i → i < next → IsSome (file_above floor runs i)
+end_above floor next begin end runs b e i h m = by_test (nat_lt i floor) refl
   where
     by_test : (t : Bool) → nat_lt i floor ≡ t → IsSome (cond t None (file_in runs i))
     by_test true k =
@@ -74,5 +74,5 @@ rewritten_above floor next begin end runs b e i h m = by_test (nat_lt i floor) r
         by_greater floor begin end e (λ p. let q = p.0 in let r = p.1 in absurd (omega (arith, q, r, h, l))) (λ p. let q = p.0 in absurd (omega (arith, q, h, l)))
     by_test false k = b.above i (by_greater floor begin end e (λ p. let q = p.0 in omega (arith, q, h)) (λ p. let q = p.0 in let r = p.1 in omega (arith, q, r, h))) m
 
-pub rewritten_within : (floor next begin end : ℕ) (runs : List Run) → BeginAt begin next runs → floor < next → end ≡ greater floor begin → end ≤ next
-rewritten_within floor next begin end runs b l e = by_greater floor begin end e (λ p. let q = p.0 in let w = b.within in omega (arith, q, w)) (λ p. let q = p.0 in omega (arith, q, l))
+pub end_within : (floor next begin end : ℕ) (runs : List Run) → BeginAt begin next runs → floor < next → end ≡ greater floor begin → end ≤ next
+end_within floor next begin end runs b l e = by_greater floor begin end e (λ p. let q = p.0 in let w = b.within in omega (arith, q, w)) (λ p. let q = p.0 in omega (arith, q, l))

@@ -7,3 +7,4 @@ pub mod BeginLemmas
 pub mod FileLemmas
 pub mod NameLemmas
 pub mod LawLemmas
+pub mod OpenedLemmas

@@ -116,7 +116,7 @@ impl GroupTrace {
 
     /// One past the entries of which none stands in an append file, as far as there are entries:
     /// those before it stand in the rewrite queue, and no other one does.
-    #[tactic(auto, unfolding(crate::specs::Traces::trace_in), using(crate::proofs::BeginLemmas::rewritten_below, crate::proofs::BeginLemmas::rewritten_above, crate::proofs::BeginLemmas::rewritten_within))]
+    #[tactic(auto, unfolding(crate::specs::Traces::trace_in), using(crate::proofs::BeginLemmas::end_below, crate::proofs::BeginLemmas::end_above, crate::proofs::BeginLemmas::end_within))]
     pub fn rewritten_end(&self) -> u128
         ensures below { (i : ℕ) → i < result → (trace_in self.now).entry_file i ≡ None }
         ensures above { (i : ℕ) → result ≤ i → i < (trace_in self.now).next → IsSome ((trace_in self.now).entry_file i) }
