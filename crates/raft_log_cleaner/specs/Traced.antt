@@ -1,0 +1,26 @@
+-- Memtables with traces, of the batches that an opening finds.
+use Rattle.std.specs.Prelude.{◌≡◌, ℕ, List, [], ◌∷◌}
+use Rattle.raft_log_records.specs.declared.item.EntryIndex.{EntryIndex}
+use Rattle.raft_log_records.specs.declared.file_id.LogQueue.{LogQueue}
+use Rattle.raft_log_records.specs.declared.file_id.LogQueue.TheVariants.{Append, Rewrite}
+use Rattle.raft_log_records.specs.Item.{Item}
+use Rattle.raft_log_covers.specs.Kept.{Traces, new_trace, traces_after}
+use Rattle.raft_log_recovery.specs.Replay.{Placed}
+use Rattle.raft_log_replay.specs.Batches.{HasReplayed}
+use Rattle.raft_log_traces.specs.Alike.{AreAlike}
+use Rattle.raft_log_traces.specs.GroupTraces.{traces_in}
+use Rattle.raft_log_cleaner.specs.declared.traced.TracedReplay.{TracedReplay}
+
+-- batches of the append queue count for traces, in their files
+abbrev pub traces_with : LogQueue → ℕ → List (Item EntryIndex) → Traces → Traces
+traces_with Append file items traces = traces_after file items traces
+traces_with Rewrite file items traces = traces
+
+abbrev pub traces_over : List Placed → Traces → Traces
+traces_over [] traces = traces
+traces_over (p ∷ ps) traces = traces_over ps (traces_with p.handle.id.queue p.handle.id.seq p.items traces)
+
+-- the tables have replayed just these batches, and the traces have those of the append queue
+pub record IsReplayedTraced (machine : TracedReplay) (placed : List Placed) : Type 0 where
+  pub tables : HasReplayed machine.replayed placed
+  pub traces : AreAlike (traces_over placed (λ group. new_trace)) (traces_in machine.traces)
