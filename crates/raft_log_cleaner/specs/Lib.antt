@@ -1,1 +1,4 @@
+pub mod Fault
+pub mod Places
+pub mod Kept
 pub mod Traced

@@ -1,12 +1,17 @@
 //! Why a cleaning is refused.
 
+ghost use Rattle.std.specs.Prelude.{◌≡◌};
+ghost use Rattle.raft_log_cleaner.specs.Fault.{fetch_fault, mark_fault, record_fault};
+
 use raft_log_files::{CorruptionFault, Error};
 use raft_log_marks::MarkError;
 use raft_log_memtables::FetchError;
 use raft_log_records::RecordError;
 
 /// A refusal of a batch.
-pub fn of_record(error: RecordError) -> Error {
+pub fn of_record(error: RecordError) -> Error
+    ensures { result ≡ record_fault error }
+{
     match error {
         RecordError::Memory | RecordError::TooLong => Error::Memory,
         RecordError::Corruption(fault) => Error::Corruption(CorruptionFault::Record(fault)),
@@ -14,7 +19,9 @@ pub fn of_record(error: RecordError) -> Error {
 }
 
 /// A refusal of marks. A group whose `Compact` would go past the greatest index is never marked.
-pub(crate) fn of_mark(error: MarkError) -> Error {
+pub(crate) fn of_mark(error: MarkError) -> Error
+    ensures { result ≡ mark_fault error }
+{
     match error {
         MarkError::Record(error) => of_record(error),
         MarkError::PastGreatestIndex => Error::EntryNotFound,
@@ -22,7 +29,9 @@ pub(crate) fn of_mark(error: MarkError) -> Error {
 }
 
 /// A refusal of entries.
-pub(crate) fn of_fetch(error: FetchError) -> Error {
+pub(crate) fn of_fetch(error: FetchError) -> Error
+    ensures { result ≡ fetch_fault error }
+{
     match error {
         FetchError::Memory => Error::Memory,
         FetchError::EntryCompacted => Error::EntryCompacted,

@@ -418,3 +418,65 @@ fn refused_cleanings_leave_the_content(rt: HostRuntime) {
     }
     assert!(rt; count > 20, "refused {count}");
 }
+
+/// A log with one long list in its rewrite queue, which is written anew until the files refuse it.
+fn long_list(alloc: Global, fuse: u64) -> Result<(bool, bool), Error> {
+    let files = MemoryFileSystem::new(alloc);
+    let mut log = opened(alloc, files, 100_000, 300_000)?;
+    let mut model = BTreeMap::new(alloc);
+    for index in 1..7u64 {
+        let mut batch = LogBatch::new(alloc);
+        let mut entries = Vec::new(alloc);
+        entries.push(vec![in alloc; index as u8; 30_000]?)?;
+        batch
+            .add_raw_entries(7, index, &entries)
+            .map_err(of_record)?;
+        log.write(batch, true)?;
+        let found = group_of(&mut model, alloc, 7)?;
+        found
+            .entries
+            .insert(index, vec![in alloc; index as u8; 30_000]?)?;
+    }
+    log.manager.must_rewrite_append_queue(
+        &mut log.files,
+        &mut log.pipes,
+        &mut log.tables,
+        None,
+        RewriteStep::All,
+    )?;
+    let is_rewritten = is_as(&log, &model)?;
+    log.files.fuse(Some(fuse));
+    let found = log
+        .manager
+        .must_rewrite_rewrite_queue(&mut log.files, &mut log.pipes, &mut log.tables);
+    log.files.fuse(None);
+    let stays = is_as(&log, &model)?;
+    let files = crashed(log.files, fuse % 2)?;
+    let mut log = opened(alloc, files, 100_000, 300_000)?;
+    let comes_back = is_as(&log, &model)?;
+    log.manager
+        .must_rewrite_rewrite_queue(&mut log.files, &mut log.pipes, &mut log.tables)?;
+    let files = crashed(log.files, 0)?;
+    let log = opened(alloc, files, 100_000, 300_000)?;
+    let is_there = is_as(&log, &model)?;
+    Ok((
+        found.is_err(),
+        is_rewritten && stays && comes_back && is_there,
+    ))
+}
+
+#[test]
+fn long_lists_are_atomic_groups(rt: HostRuntime) {
+    let mut count = 0;
+    for fuse in [2u64, 5, 7, 9, 60] {
+        let found = long_list(rt.alloc(), fuse);
+        assert!(rt;
+            found == Ok((true, true)) || found == Ok((false, true)),
+            "fuse {fuse}: {found:?}"
+        );
+        if found == Ok((true, true)) {
+            count += 1;
+        }
+    }
+    assert!(rt; count > 1 && count < 5, "refused {count}");
+}

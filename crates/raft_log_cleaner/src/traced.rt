@@ -1,5 +1,14 @@
 //! Memtables with the traces of their groups.
 
+ghost use Rattle.std.specs.Prelude.{◌≡◌, ℕ, List, None, OnOk};
+ghost use Rattle.raft_log_covers.specs.Kept.{new_trace, traces_after};
+ghost use Rattle.raft_log_memtables.specs.Content.{after_batch, nothing, reach_after_batch};
+ghost use Rattle.raft_log_memtables.specs.MemTable.{batch_items};
+ghost use Rattle.raft_log_memtables.specs.MemTables.{content_in, reach_in};
+ghost use Rattle.raft_log_records.specs.Item.{items_of};
+ghost use Rattle.raft_log_traces.specs.Alike.{AreAlike};
+ghost use Rattle.raft_log_traces.specs.GroupTraces.{traces_in};
+
 use raft_log_files::Error;
 use raft_log_memtables::MemTables;
 use raft_log_records::{FileBlockHandle, FileSeq, LogItemBatch, LogQueue};
@@ -17,7 +26,11 @@ pub struct TracedTables {
 
 impl TracedTables {
     /// No group is there, and nothing was ever written.
-    pub fn new(alloc: Global) -> TracedTables {
+    pub fn new(alloc: Global) -> TracedTables
+        ensures content { content_in result.tables ≡ nothing }
+        ensures reach { (group : ℕ) → reach_in result.tables group ≡ None }
+        ensures traces { (group : ℕ) → traces_in result.traces group ≡ new_trace }
+    {
         TracedTables {
             tables: MemTables::new(alloc),
             traces: GroupTraces::new(alloc),
@@ -25,12 +38,16 @@ impl TracedTables {
     }
 
     /// The memtables.
-    pub fn tables(&self) -> &MemTables {
+    pub fn tables(&self) -> &MemTables
+        ensures { result.now ≡ self.now.tables }
+    {
         &self.tables
     }
 
     /// What is kept of each group for cleaning.
-    pub fn traces(&self) -> &GroupTraces {
+    pub fn traces(&self) -> &GroupTraces
+        ensures { result.now ≡ self.now.traces }
+    {
         &self.traces
     }
 
@@ -59,8 +76,9 @@ impl ReplayMachine for TracedReplay {
     ghost has_replayed = { IsReplayedTraced };
 
     fn replay(&mut self, batch: LogItemBatch, handle: FileBlockHandle) -> Result<(), Error> {
-        if handle.id.queue == LogQueue::Append {
-            self.traces.apply(handle.id.seq, &batch.items)?;
+        match handle.id.queue {
+            LogQueue::Append => self.traces.apply(handle.id.seq, &batch.items)?,
+            LogQueue::Rewrite => {}
         }
         self.replayed.replay(batch, handle)
     }
