@@ -65,10 +65,10 @@ module _ {E : Type 0} where
   abbrev Groups : Traces → Content E → Content E → Account → Type 0
   Groups traces older content account = (group : ℕ) → Bounds (traces group) (content group) (account group) × Knows (traces group) (older group) (content group) (account group) × TellsFiles (traces group) (content group) (account group)
 
-  abbrev account_after_item : ℕ → Item E → Account → Account
+  abbrev pub account_after_item : ℕ → Item E → Account → Account
   account_after_item file item account group = cond (nat_eq item.group group) (names_after file item.change (account group)) (account group)
 
-  abbrev account_after_items : ℕ → List (Item E) → Account → Account
+  abbrev pub account_after_items : ℕ → List (Item E) → Account → Account
   account_after_items file [] account = account
   account_after_items file (item ∷ items) account = account_after_items file items (account_after_item file item account)
 
@@ -104,7 +104,7 @@ module _ {E : Type 0} where
       by_set false r = refl
   either_test file names change c false r = refl
 
-  same_account : (file : ℕ) (items : List (Item E)) (account : Account) (group : ℕ) (c : Cell) → account_after_items file items account group c ≡ account_after file items account group c
+  pub same_account : (file : ℕ) (items : List (Item E)) (account : Account) (group : ℕ) (c : Cell) → account_after_items file items account group c ≡ account_after file items account group c
   same_account file [] account group c = refl
   same_account file (item ∷ items) account group c =
       same_account file items (account_after_item file item account) group c ∙ either_test file (account group) item.change c (nat_eq item.group group) (batch_sets items group c)
