@@ -1,1 +1,3 @@
-pub mod BlockReads
+pub mod EntryReads
+pub mod HeldLemmas
+pub mod Whole

@@ -4,7 +4,8 @@ use Rattle.raft_log_files.specs.declared.error.Error.{Error}
 use Rattle.raft_log_pipe.proofs.CausedLemmas.{told_cause}
 use Rattle.raft_log_pipes.specs.Pipes.{pipe_of}
 use Rattle.raft_log_blocks.specs.Unread.{IsUnread}
-use Rattle.raft_log_blocks.proofs.BlockReads.{block_read, pipe_there, whole_bytes, whole_unread}
+use Rattle.raft_log_blocks.proofs.EntryReads.{block_read, pipe_there}
+use Rattle.raft_log_blocks.proofs.Whole.{whole_bytes, whole_unread}
 use Rattle.raft_log_blocks.proofs.blocks.read_block.Goals as goal
 
 pub returns-clause-read : goal.returns-clause-read

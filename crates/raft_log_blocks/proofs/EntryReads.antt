@@ -1,32 +1,30 @@
--- Blocks are read as they stand in their files.
-use Rattle.std.proofs.Common.{◌≡◌, ◌≢◌, ◌⊎◌, inl, inr, ℕ, ◌+◌, ◌<◌, ◌≤◌, Bool, true, false, cond, List, [], ◌∷◌, length, take, drop, Option, Some, None, refl, sym, ap, subst, ◌∙◌, arith, length-append}
+-- Entries are read as their bytes.
+use Rattle.std.proofs.Common.{◌≡◌, ◌≢◌, ◌⊎◌, inl, inr, ℕ, ◌+◌, ◌<◌, ◌≤◌, Bool, true, false, cond, List, [], ◌∷◌, ◌++◌, length, take, drop, Option, Some, None, refl, sym, ap, subst, ◌∙◌, arith, length-append}
 use Rattle.std.specs.Prelude.{◌==◌}
 use Rattle.std.specs.Int.{w32, to_be_bytes}
 use Rattle.std.proofs.lemmas.Bool.{eq-eqb}
 use Rattle.std.proofs.lemmas.Bool.Decides.{eqb_tells}
-use Rattle.std.proofs.lemmas.List.{take_at}
+use Rattle.std.proofs.lemmas.List.{append-nil, take_at}
 use Rattle.raft_log_records.specs.declared.file_id.FileBlockHandle.{FileBlockHandle}
 use Rattle.raft_log_records.specs.declared.file_id.LogQueue.{LogQueue}
 use Rattle.raft_log_records.specs.declared.file_id.LogQueue.TheVariants.{Append, Rewrite}
 use Rattle.raft_log_records.specs.declared.item.EntryIndex.{EntryIndex}
 use Rattle.raft_log_records.specs.Checksum.{crc32_of}
 use Rattle.raft_log_records.specs.Item.{entry_bytes}
-use Rattle.raft_log_records.specs.Spelling.{sealed, signed}
-use Rattle.raft_log_disk.specs.Cause.{Meter}
-use Rattle.raft_log_disk.specs.Disk.{Disk, IsIn, IsNoFile}
-use Rattle.raft_log_files.specs.declared.error.Error.{Error}
-use Rattle.raft_log_file.specs.Errors.{IsReadFault}
+use Rattle.raft_log_records.specs.Spelling.{block_of, sealed, signed}
+use Rattle.raft_log_disk.specs.Disk.{Disk, IsIn}
 use Rattle.raft_log_pipe.specs.declared.file.File.{File}
 use Rattle.raft_log_pipe.specs.declared.pipe.SinglePipe.{SinglePipe}
-use Rattle.raft_log_pipe.specs.Blocks.{AreOfFile, IsBlockFault, IsOutOfSpan, files_of}
-use Rattle.raft_log_pipe.specs.Pipe.{AreConsecutive, IsPipe, first_of}
-use Rattle.raft_log_pipe.proofs.BlockLemmas.{in_last, older_below, one_file}
+use Rattle.raft_log_pipe.specs.Blocks.{AreOfFile, IsOutOfSpan, files_of}
+use Rattle.raft_log_pipe.specs.Pipe.{Numbered, AreConsecutive, Holds, IsPipe, first_of}
+use Rattle.raft_log_pipe.proofs.BlockLemmas.{blocks_are, one_file}
 use Rattle.raft_log_pipe.proofs.NextLemmas.{consecutive_push}
 use Rattle.raft_log_pipes.specs.declared.pipes.DualPipes.{DualPipes}
 use Rattle.raft_log_pipes.specs.Pipes.{ArePipes, pipe_of}
-use Rattle.raft_log_blocks.specs.Blocks.{StandsWhole}
+use Rattle.raft_log_blocks.specs.Blocks.{block_on}
+use Rattle.raft_log_blocks.specs.Held.{ReadsBlocks}
+use Rattle.raft_log_blocks.specs.Held.{LiesIn, ReadsEntries}
 use Rattle.raft_log_blocks.specs.Placed.{block_in, bytes_on, bytes_placed, file_in, unsealed_bytes}
-use Rattle.raft_log_blocks.specs.Unread.{IsUnread}
 
 -- ---- the file of a number
 
@@ -110,31 +108,55 @@ pipe_there p d pipes Rewrite = pipes.rewrite
 pub entry_read : (p : DualPipes) (d : Disk) (e : EntryIndex) (h : FileBlockHandle) (block bytes : List ℕ) → e.entries ≡ Some h → block ≡ block_in d h (file_in h.id.seq (files_of (pipe_of p h.id.queue))) → bytes ≡ entry_bytes block e → bytes ≡ bytes_on d p e
 entry_read p d e h block bytes place read is = is ∙ ap (λ (l : List ℕ). entry_bytes l e) read ∙ sym (ap (λ (o : Option FileBlockHandle). bytes_placed d p e o) place)
 
-file_within : (p : SinglePipe) (d : Disk) (f : File) → IsPipe p d → IsIn f (files_of p) → IsOutOfSpan p f.seq → ⊥
-file_within p d f pipe among out = by_place (in_last p.older.items f p.active among) out
-  where
-    by_place : IsIn f p.older.items ⊎ (f ≡ p.active) → IsOutOfSpan p f.seq → ⊥
-    by_place (inl older) (inl below) = let one = older_below p.older.items p.active.seq f pipe.numbers older in absurd (omega (arith, one.1, below))
-    by_place (inl older) (inr above) = let one = older_below p.older.items p.active.seq f pipe.numbers older in absurd (omega (arith, one.0, above))
-    by_place (inr last) (inl below) = absurd (omega (arith, below, ap (λ (x : File). x.seq) last))
-    by_place (inr last) (inr above) = absurd (omega (arith, above, ap (λ (x : File). x.seq) last))
+-- what stands at a block's place in a file
+abbrev bytes_there : Disk → FileBlockHandle → File → List ℕ
+bytes_there d h f = take h.len (drop h.offset (d.file f.handle.0).bytes)
 
--- ---- why such a block isn't read
+lies_there : (p : SinglePipe) (d : Disk) (bs : Numbered) → IsPipe p d → (e : EntryIndex) (bytes : List ℕ) → (lies : LiesIn p bs e bytes) → AreOfFile p d lies.handle (bytes_there d lies.handle lies.file)
+lies_there p d bs pipe e bytes lies f among number = ap (bytes_there d lies.handle) (one_file p d lies.file f pipe lies.among among (sym lies.block.seq ∙ sym number))
 
-pub whole_unread : (d : Disk) (p : DualPipes) (m : Meter) (h : FileBlockHandle) → ArePipes p d → StandsWhole d p h → (x : Error) → IsBlockFault (pipe_of p h.id.queue) d m h x → IsUnread d p m h x
-whole_unread d p m h pipes whole x (inl (out, is)) =
-    absurd (file_within (pipe_of p h.id.queue) d whole.file (pipe_there p d pipes h.id.queue) whole.among (subst (IsOutOfSpan (pipe_of p h.id.queue)) (sym whole.number) out))
-whole_unread d p m h pipes whole x (inr (f, among, number, why)) = by_cause why
-  where
-    same : whole.file ≡ f
-    same = one_file (pipe_of p h.id.queue) d whole.file f (pipe_there p d pipes h.id.queue) whole.among among (whole.number ∙ sym number)
+-- the block of an entry that lies in a batch of a pipe, with its checksum
+pub lies_sealed : (p : SinglePipe) (d : Disk) (s u : Numbered) → IsPipe p d → Holds p d s u → (e : EntryIndex) (bytes : List ℕ) → (lies : LiesIn p (s ++ u) e bytes) → bytes_there d lies.handle lies.file ≡ sealed None (block_of lies.items)
+lies_sealed p d s u pipe holds e bytes lies =
+    blocks_are p d lies.handle (bytes_there d lies.handle lies.file) pipe (lies_there p d (s ++ u) pipe e bytes lies) s u lies.before lies.after lies.file lies.items 8 holds lies.split lies.among lies.block ∙ lies.stands
 
-    by_cause : IsReadFault d m f.handle.0 x → IsUnread d p m h x
-    by_cause (inl memory) = inl memory
-    by_cause (inr (inl (is, refuses))) = inr (is, (f, among, number, refuses))
-    by_cause (inr (inr (is, gone))) = absurd (whole.there (subst (λ (y : File). IsNoFile d y.handle.0) (sym same) gone))
+-- and without it
+pub lies_block : (p : SinglePipe) (d : Disk) (s u : Numbered) → IsPipe p d → Holds p d s u → (e : EntryIndex) (bytes : List ℕ) → (lies : LiesIn p (s ++ u) e bytes)
+    → block_in d lies.handle (file_in lies.handle.id.seq (files_of p)) ≡ block_of lies.items
+lies_block p d s u pipe holds e bytes lies =
+    block_is p d lies.handle (bytes_there d lies.handle lies.file) (block_of lies.items) (found lies.handle.id.seq (files_of p) lies.file lies.among (sym lies.block.seq)) (lies_there p d (s ++ u) pipe e bytes lies)
+    (lies_sealed p d s u pipe holds e bytes lies)
 
--- the bytes that are read are the block
-pub whole_bytes : (d : Disk) (p : DualPipes) (h : FileBlockHandle) (bytes : List ℕ) → (whole : StandsWhole d p h) → ((f : File) → IsIn f (files_of (pipe_of p h.id.queue)) → f.seq ≡ h.id.seq → bytes ≡ take h.len (drop h.offset (d.file f.handle.0).bytes))
-    → bytes ≡ sealed None whole.entries
-whole_bytes d p h bytes whole are = are whole.file whole.among whole.number ∙ whole.stands
+-- an entry that lies in a batch of a pipe, in its block there
+lies_read : (p : SinglePipe) (d : Disk) (s u : Numbered) → IsPipe p d → Holds p d s u → (e : EntryIndex) (bytes : List ℕ) → (lies : LiesIn p (s ++ u) e bytes)
+    → entry_bytes (block_in d lies.handle (file_in lies.handle.id.seq (files_of p))) e ≡ bytes
+lies_read p d s u pipe holds e bytes lies =
+    ap (λ (l : List ℕ). entry_bytes l e) (lies_block p d s u pipe holds e bytes lies) ∙ sym lies.bytes_are
+
+-- so it is read where the handle's queue is the pipe's
+placed_read : (p : DualPipes) (d : Disk) (q : SinglePipe) (bs : Numbered) (e : EntryIndex) (bytes : List ℕ) → (lies : LiesIn q bs e bytes) → pipe_of p lies.handle.id.queue ≡ q
+    → entry_bytes (block_in d lies.handle (file_in lies.handle.id.seq (files_of q))) e ≡ bytes → bytes_on d p e ≡ bytes
+placed_read p d q bs e bytes lies is read =
+    ap (λ (o : Option FileBlockHandle). bytes_placed d p e o) lies.place
+    ∙ ap (λ (x : SinglePipe). entry_bytes (block_in d lies.handle (file_in lies.handle.id.seq (files_of x))) e) is
+    ∙ read
+
+-- entries that lie in batches of either queue are read as their bytes
+pub disk_reads : (p : DualPipes) (d : Disk) (r s u : Numbered) → ArePipes p d → Holds p.rewrite d r [] → Holds p.append d s u → ReadsEntries p r (s ++ u) (bytes_on d p)
+disk_reads p d r s u pipes rewrite append e bytes (inl lies) =
+    let moved : LiesIn p.rewrite (r ++ []) e bytes = subst (λ (l : Numbered). LiesIn p.rewrite l e bytes) (sym (append-nil r)) lies in
+    placed_read p d p.rewrite (r ++ []) e bytes moved (ap (pipe_of p) (moved.queue ∙ p.rewrites)) (lies_read p.rewrite d r [] pipes.rewrite rewrite e bytes moved)
+disk_reads p d r s u pipes rewrite append e bytes (inr lies) =
+    placed_read p d p.append (s ++ u) e bytes lies (ap (pipe_of p) (lies.queue ∙ p.appends)) (lies_read p.append d s u pipes.append append e bytes lies)
+
+-- and so are their blocks
+queue_block : (p : DualPipes) (d : Disk) (q : SinglePipe) (bs : Numbered) (e : EntryIndex) (bytes : List ℕ) → (lies : LiesIn q bs e bytes) → pipe_of p lies.handle.id.queue ≡ q
+    → block_in d lies.handle (file_in lies.handle.id.seq (files_of q)) ≡ block_of lies.items → block_on d p lies.handle ≡ block_of lies.items
+queue_block p d q bs e bytes lies is read = ap (λ (x : SinglePipe). block_in d lies.handle (file_in lies.handle.id.seq (files_of x))) is ∙ read
+
+pub disk_reads_blocks : (p : DualPipes) (d : Disk) (r s u : Numbered) → ArePipes p d → Holds p.rewrite d r [] → Holds p.append d s u → ReadsBlocks p r (s ++ u) (block_on d p)
+disk_reads_blocks p d r s u pipes rewrite append = record {
+  rewrite = subst (λ (l : Numbered). (e : EntryIndex) (bytes : List ℕ) → (lies : LiesIn p.rewrite l e bytes) → block_on d p lies.handle ≡ block_of lies.items) (append-nil r)
+      (λ e bytes lies. queue_block p d p.rewrite (r ++ []) e bytes lies (ap (pipe_of p) (lies.queue ∙ p.rewrites)) (lies_block p.rewrite d r [] pipes.rewrite rewrite e bytes lies));
+  append = λ e bytes lies. queue_block p d p.append (s ++ u) e bytes lies (ap (pipe_of p) (lies.queue ∙ p.appends)) (lies_block p.append d s u pipes.append append e bytes lies);
+}
