@@ -1,4 +1,1 @@
 pub mod Fault
-pub mod Places
-pub mod Kept
-pub mod Traced

@@ -1,7 +1,6 @@
 //! Entries and keys of a group that stand in append files, written to the rewrite queue.
 
 use crate::fault::{of_fetch, of_mark, of_record};
-use crate::traced::TracedTables;
 use crate::writer::{MOST_BATCH_BYTES, Writer};
 use raft_log_blocks::read_entry;
 use raft_log_files::{Error, FileSystem};
@@ -9,6 +8,7 @@ use raft_log_memtables::MemTables;
 use raft_log_pipes::DualPipes;
 use raft_log_purge::{mark_group, rewrite_entries, rewrite_key};
 use raft_log_records::FileSeq;
+use raft_log_traced::TracedTables;
 use raft_log_traces::{GroupTrace, GroupTraces};
 use std::alloc::{AllocError, Global};
 
@@ -71,7 +71,7 @@ fn rewrite_all_entries<F: FileSystem>(
             Err(error) => return Err(of_record(error)),
         }
         writer.count = writer.count.saturating_add(entries.len() as u64);
-        writer.flush_large(files, pipes, &mut log.tables)?;
+        writer.flush_large(files, pipes, log)?;
     }
     Ok(())
 }
@@ -113,7 +113,7 @@ fn rewrite_all_keys<F: FileSystem>(
             Err(error) => return Err(of_record(error)),
         }
         writer.count = writer.count.saturating_add(1);
-        writer.flush_large(files, pipes, &mut log.tables)?;
+        writer.flush_large(files, pipes, log)?;
     }
     Ok(())
 }
@@ -139,7 +139,7 @@ pub(crate) fn mark<F: FileSystem>(
         Ok(()) => {}
         Err(error) => return Err(of_mark(error)),
     }
-    writer.flush_large(files, pipes, &mut log.tables)
+    writer.flush_large(files, pipes, log)
 }
 
 /// Rewrites what a group has in append files before one: its marks, its entries, its keys.

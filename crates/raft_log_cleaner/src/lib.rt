@@ -4,16 +4,11 @@
 
 mod entries;
 mod fault;
-mod listener;
 mod manager;
-mod places;
 #[cfg(test)]
 mod tests;
-mod traced;
 mod whole;
 mod writer;
 
 pub use fault::of_record;
-pub use listener::{EventListener, least_kept};
 pub use manager::{PurgeManager, PurgeSettings, RewriteStep};
-pub use traced::{TracedReplay, TracedTables};

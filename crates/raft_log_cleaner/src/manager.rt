@@ -1,7 +1,6 @@
 //! When the log is cleaned, and how.
 
 use crate::entries::{mark, rewrite_group};
-use crate::traced::TracedTables;
 use crate::whole::{rewrite_whole_group, rewritten_entries};
 use crate::writer::Writer;
 use raft_log_files::{Config, Error, FileSystem};
@@ -11,6 +10,7 @@ use raft_log_purge::{
     let_go, watermarks_of,
 };
 use raft_log_records::{FileSeq, LogQueue};
+use raft_log_traced::TracedTables;
 use std::alloc::{AllocError, Global};
 
 /// A group with more entries in the rewrite queue is told, where that is written anew.
@@ -216,7 +216,7 @@ impl PurgeManager {
         for group in groups {
             rewrite_group(self.alloc, files, pipes, log, &mut writer, *group, before)?;
         }
-        writer.flush(files, pipes, &mut log.tables)?;
+        writer.flush(files, pipes, log)?;
         writer.sync(files, pipes)?;
         self.written = self.written.saturating_add(writer.count);
         Ok(())
@@ -235,7 +235,7 @@ impl PurgeManager {
         for group in groups {
             mark(self.alloc, files, pipes, log, &mut writer, *group, before)?;
         }
-        writer.flush(files, pipes, &mut log.tables)?;
+        writer.flush(files, pipes, log)?;
         writer.sync(files, pipes)
     }
 
@@ -308,7 +308,7 @@ impl PurgeManager {
             rewrite_whole_group(self.alloc, files, pipes, log, &mut writer, group, id)?;
             self.next_id = self.next_id.wrapping_add(1);
         }
-        writer.flush(files, pipes, &mut log.tables)?;
+        writer.flush(files, pipes, log)?;
         writer.sync(files, pipes)?;
         pipes.purge_to(files, LogQueue::Rewrite, active)?;
         self.written = writer.count;

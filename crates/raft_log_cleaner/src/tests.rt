@@ -2,13 +2,13 @@
 
 use crate::fault::of_record;
 use crate::manager::{PurgeManager, PurgeSettings, RewriteStep};
-use crate::traced::{TracedReplay, TracedTables};
 use raft_log_blocks::read_entry;
 use raft_log_disk::{CrashChoice, CrashFiles};
 use raft_log_files::{Config, Error, IoFault, MemoryFileSystem, RecoveryMode};
 use raft_log_pipes::DualPipes;
 use raft_log_records::{Command, LogBatch, LogQueue, ReadableSize};
 use raft_log_recovery::{DefaultMachineFactory, DualPipesBuilder};
+use raft_log_traced::{TracedReplay, TracedTables};
 use std::alloc::Global;
 use std::collections::BTreeMap;
 
@@ -121,7 +121,7 @@ fn is_as(log: &Log, model: &Model) -> Result<bool, Error> {
     for group in model.keys() {
         groups.push(*group)?;
     }
-    if log.tables.tables().groups()? != groups {
+    if log.tables.tables.groups()? != groups {
         return Ok(false);
     }
     for (group, want) in model {
@@ -133,7 +133,7 @@ fn is_as(log: &Log, model: &Model) -> Result<bool, Error> {
 }
 
 fn is_group_as(log: &Log, group: u64, want: &Group) -> Result<bool, Error> {
-    let tables = log.tables.tables();
+    let tables = &log.tables.tables;
     let (first, last) = (tables.first_index(group), tables.last_index(group));
     let low = want.entries.first_key_value().map(|(i, _)| *i);
     let high = want.entries.last_key_value().map(|(i, _)| *i);
@@ -145,13 +145,6 @@ fn is_group_as(log: &Log, group: u64, want: &Group) -> Result<bool, Error> {
             return Ok(false);
         };
         if read_entry(log.alloc, &log.files, &log.pipes, place)? != *bytes {
-            return Ok(false);
-        }
-        let (Some(trace), Some(handle)) = (log.tables.traces().get(group), place.entries) else {
-            return Ok(false);
-        };
-        let is_rewritten = handle.id.queue == LogQueue::Rewrite;
-        if is_rewritten != ((*index as u128) < trace.rewritten_end()) {
             return Ok(false);
         }
     }
@@ -166,6 +159,25 @@ fn is_group_as(log: &Log, group: u64, want: &Group) -> Result<bool, Error> {
         }
     }
     Ok(true)
+}
+
+/// Traces tell which entries stand in the rewrite queue. After a refused cleaning they run ahead.
+fn do_traces_tell(log: &Log, model: &Model) -> bool {
+    let mut do_tell = true;
+    for (group, want) in model {
+        for (index, _) in &want.entries {
+            let place = match log.tables.tables.get_entry(*group, *index) {
+                Some(place) => place.entries,
+                None => None,
+            };
+            let (Some(trace), Some(handle)) = (log.tables.traces.get(*group), place) else {
+                return false;
+            };
+            let is_rewritten = handle.id.queue == LogQueue::Rewrite;
+            do_tell &= is_rewritten == ((*index as u128) < trace.rewritten_end());
+        }
+    }
+    do_tell
 }
 
 fn group_of(model: &mut Model, alloc: Global, group: u64) -> Result<&mut Group, Error> {
@@ -355,7 +367,7 @@ fn run(alloc: Global, seed: u64, steps: u64) -> Result<Option<u64>, Error> {
                 log = opened(alloc, files, target, threshold)?;
             }
         }
-        if !is_as(&log, &model)? {
+        if !is_as(&log, &model)? || !do_traces_tell(&log, &model) {
             return Ok(Some(step));
         }
     }

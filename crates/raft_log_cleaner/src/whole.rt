@@ -2,12 +2,12 @@
 
 use crate::entries::copies;
 use crate::fault::{of_mark, of_record};
-use crate::traced::TracedTables;
 use crate::writer::{MOST_BATCH_BYTES, Writer};
 use raft_log_files::{Error, FileSystem};
 use raft_log_pipes::DualPipes;
 use raft_log_purge::mark_anyway;
 use raft_log_records::{AtomicGroupBuilder, LogBatch, RecordError};
+use raft_log_traced::TracedTables;
 use std::alloc::{AllocError, Global};
 
 /// The entries of a group that stand in the rewrite queue: from an index on, up to before another
@@ -102,7 +102,7 @@ pub(crate) fn rewrite_whole_group<F: FileSystem>(
     let is_long = passes_one_batch(log, group, begin, end);
     let mut part = Part::Alone;
     if is_long {
-        writer.flush(files, pipes, &mut log.tables)?;
+        writer.flush(files, pipes, log)?;
         part = Part::First;
     }
     begin_part(&mut writer.batch, id, part).map_err(of_record)?;
@@ -123,7 +123,7 @@ pub(crate) fn rewrite_whole_group<F: FileSystem>(
         writer.count = writer.count.saturating_add(entries.len() as u64);
         at = at.saturating_add(entries.len() as u64);
         if is_long {
-            writer.flush(files, pipes, &mut log.tables)?;
+            writer.flush(files, pipes, log)?;
             part = Part::Next;
         }
     }
@@ -134,5 +134,5 @@ pub(crate) fn rewrite_whole_group<F: FileSystem>(
             .map_err(of_record)?;
     }
     add_keys(writer, group, keys)?;
-    writer.flush_large(files, pipes, &mut log.tables)
+    writer.flush_large(files, pipes, log)
 }

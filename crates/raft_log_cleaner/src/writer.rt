@@ -1,11 +1,10 @@
 //! What a cleaning writes to the rewrite queue.
 
 use crate::fault::of_record;
-use crate::places::set_places;
 use raft_log_files::{Error, FileSystem};
-use raft_log_memtables::MemTables;
 use raft_log_pipes::DualPipes;
 use raft_log_records::{LogBatch, LogQueue};
+use raft_log_traced::TracedTables;
 use std::alloc::Global;
 
 /// A batch with so many bytes is written.
@@ -46,7 +45,7 @@ impl Writer {
         &mut self,
         files: &mut F,
         pipes: &mut DualPipes,
-        tables: &mut MemTables,
+        log: &mut TracedTables,
     ) -> Result<(), Error> {
         if self.batch.is_empty() {
             return Ok(());
@@ -62,7 +61,7 @@ impl Writer {
             None => written,
         };
         let items = self.batch.drain();
-        set_places(tables, &items.items, place);
+        log.set_places(&items.items, place);
         self.unsynced = self.unsynced.saturating_add(len as u64);
         if self.unsynced >= MOST_UNSYNCED_BYTES {
             return self.sync(files, pipes);
@@ -75,10 +74,10 @@ impl Writer {
         &mut self,
         files: &mut F,
         pipes: &mut DualPipes,
-        tables: &mut MemTables,
+        log: &mut TracedTables,
     ) -> Result<(), Error> {
         if self.is_large() {
-            return self.flush(files, pipes, tables);
+            return self.flush(files, pipes, log);
         }
         Ok(())
     }
