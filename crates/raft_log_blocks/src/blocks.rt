@@ -54,7 +54,7 @@ pub fn copy_in(alloc: Global, entries: &[u8], place: EntryIndex) -> Result<Vec<u
 /// A copy of an entry's bytes, from its block in its file (own): as a cleaning takes them, which
 /// comes to each block once.
 #[tactic(auto, using(crate::proofs::EntryReads::entry_read))]
-pub fn read_entry<F: FileSystem>(
+pub fn read_placed_entry<F: FileSystem>(
     alloc: Global,
     files: &F,
     pipes: &DualPipes,

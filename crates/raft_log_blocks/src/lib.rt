@@ -3,4 +3,4 @@
 
 mod blocks;
 
-pub use blocks::{copy_in, read_block, read_entry};
+pub use blocks::{copy_in, read_block, read_placed_entry};

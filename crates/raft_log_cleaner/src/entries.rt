@@ -2,7 +2,7 @@
 
 use crate::fault::{of_fetch, of_mark, of_record};
 use crate::writer::{MOST_BATCH_BYTES, Writer};
-use raft_log_blocks::read_entry;
+use raft_log_blocks::read_placed_entry;
 use raft_log_files::{Error, FileSystem};
 use raft_log_memtables::MemTables;
 use raft_log_pipes::DualPipes;
@@ -34,7 +34,7 @@ pub(crate) fn copies<F: FileSystem>(
     };
     let mut copies = Vec::new(alloc);
     for place in places {
-        copies.push(read_entry(alloc, files, pipes, place)?)?;
+        copies.push(read_placed_entry(alloc, files, pipes, place)?)?;
     }
     Ok(copies)
 }

@@ -2,7 +2,7 @@
 
 use crate::fault::of_record;
 use crate::manager::{PurgeManager, PurgeSettings, RewriteStep};
-use raft_log_blocks::read_entry;
+use raft_log_blocks::read_placed_entry;
 use raft_log_disk::{CrashChoice, CrashFiles};
 use raft_log_files::{Config, Error, IoFault, MemoryFileSystem, RecoveryMode};
 use raft_log_pipes::DualPipes;
@@ -144,7 +144,7 @@ fn is_group_as(log: &Log, group: u64, want: &Group) -> Result<bool, Error> {
         let Some(place) = tables.get_entry(group, *index) else {
             return Ok(false);
         };
-        if read_entry(log.alloc, &log.files, &log.pipes, place)? != *bytes {
+        if read_placed_entry(log.alloc, &log.files, &log.pipes, place)? != *bytes {
             return Ok(false);
         }
     }
@@ -431,11 +431,10 @@ fn refused_cleanings_leave_the_content(rt: HostRuntime) {
     assert!(rt; count > 20, "refused {count}");
 }
 
-/// A log with one long list in its rewrite queue, which is written anew until the files refuse it.
-fn long_list(alloc: Global, fuse: u64) -> Result<(bool, bool), Error> {
+/// A log with one long list of entries, in append files.
+fn with_long_list(alloc: Global, model: &mut Model) -> Result<Log, Error> {
     let files = MemoryFileSystem::new(alloc);
     let mut log = opened(alloc, files, 100_000, 300_000)?;
-    let mut model = BTreeMap::new(alloc);
     for index in 1..7u64 {
         let mut batch = LogBatch::new(alloc);
         let mut entries = Vec::new(alloc);
@@ -444,11 +443,18 @@ fn long_list(alloc: Global, fuse: u64) -> Result<(bool, bool), Error> {
             .add_raw_entries(7, index, &entries)
             .map_err(of_record)?;
         log.write(batch, true)?;
-        let found = group_of(&mut model, alloc, 7)?;
+        let found = group_of(model, alloc, 7)?;
         found
             .entries
             .insert(index, vec![in alloc; index as u8; 30_000]?)?;
     }
+    Ok(log)
+}
+
+/// A log with one long list in its rewrite queue, which is written anew until the files refuse it.
+fn long_list(alloc: Global, fuse: u64) -> Result<(bool, bool), Error> {
+    let mut model = BTreeMap::new(alloc);
+    let mut log = with_long_list(alloc, &mut model)?;
     log.manager.must_rewrite_append_queue(
         &mut log.files,
         &mut log.pipes,

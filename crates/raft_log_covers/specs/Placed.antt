@@ -40,4 +40,5 @@ PlacesTellFiles E = (at : E → Option ℕ) (older : Content E) (bs : List (File
 -- Traces that begin without files of keys have the one that the account names, of each key that is there.
 abbrev pub TracesTellKeys : Type 0 → Type 0
 TracesTellKeys E = (older : Content E) (bs : List (Filed E)) (traces : Traces) → ((group : ℕ) (k : List ℕ) → (traces group).key_file k ≡ None)
-    → (group : ℕ) (k : List ℕ) → IsSome ((after_batches (batches_of bs) older group).value k) → account_after_all bs no_account group (key k) ≡ (traces_after_all bs traces group).key_file k
+    → (group : ℕ) (k : List ℕ) → IsSome ((after_batches (batches_of bs) older group).value k)
+    → account_after_all bs no_account group (key k) ≡ (traces_after_all bs traces group).key_file k
