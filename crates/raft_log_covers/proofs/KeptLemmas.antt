@@ -1,5 +1,5 @@
 -- What keeps the invariant of two queues.
-use Rattle.std.proofs.Common.{Option, ⊎_elim, drop, ◌≡◌, ◌≤◌, ◌+◌, ℕ, Bool, true, false, cond, ◌&&◌, ◌||◌, List, [], ◌∷◌, ◌++◌, length, Some, None, refl, sym, ap, ◌∙◌, subst, true≢false, le_refl, le_trans}
+use Rattle.std.proofs.Common.{Option, ⊎_elim, drop, ◌≡◌, ◌≤◌, ◌+◌, ℕ, Bool, true, false, cond, ◌&&◌, ◌||◌, List, [], ◌∷◌, ◌++◌, length, Some, None, refl, sym, ap, ◌∙◌, subst, true≢false, le_refl, le_trans, ltb-true, ltb-false}
 use Rattle.std.specs.Prelude.{nat_eq, nat_le, nat_lt, bytes_eq, is_some, IsSome}
 use Rattle.std.proofs.lemmas.Bool.{eqb-true}
 use Rattle.raft_log_records.specs.Item.{Change, Item}
@@ -15,7 +15,7 @@ use Rattle.raft_log_covers.specs.Written.{Written, AreWritten, all_records}
 use Rattle.raft_log_covers.specs.Account.{Account, IsFrom, IsAccounted, no_account, account_after, account_after_all, NamesNoneBefore}
 use Rattle.raft_log_covers.specs.Marks.{of_group, after_changes, deletes, is_in, Names, with_group, marks, MayRewrite, names_after_marks, names_after_entries, names_after_put}
 use Rattle.raft_log_covers.specs.Trace.{Trace, file_of, IsBounded, Bounds, Knows, TellsFiles, KnowsRemoved, GoOn, AreRun, trace_after, names_after, trace_marked, trace_rewritten, trace_put, settled_by}
-use Rattle.raft_log_covers.specs.Kept.{GivesAll, HasWhole, traces_after_all, opened_trace, HasEnds, IsUnmarked, IsOpened, new_trace, NamesNoEarlier, Traces, IsKept, traces_after_item, traces_after, AllGoOn, with_trace}
+use Rattle.raft_log_covers.specs.Kept.{GivesAll, HasWhole, traces_after_all, IsFirstOf, IsReplayed, IsUnmarked, IsOpened, new_trace, NamesNoEarlier, Traces, IsKept, traces_after_item, traces_after, AllGoOn, with_trace}
 use Rattle.raft_log_covers.proofs.CellLemmas.{records_compose, same_entry, same_value}
 use Rattle.raft_log_covers.proofs.QueueLemmas.{read_as_the_content}
 use Rattle.raft_log_covers.proofs.AccountLemmas.{writes_account, openings_account, either_part, old_rewrites_may_go, files_may_go}
@@ -37,6 +37,16 @@ is_there_is : {X : Type 0} (o : Option X) (x : X) → o ≡ Some x → IsSome o
 is_there_is None x e = absurd cc
 is_there_is (Some y) x e = refl
 
+bounded_by_none : (o kept : Option ℕ) → o ≡ None → IsBounded o kept
+bounded_by_none None kept e = tt
+bounded_by_none (Some file) kept e = absurd cc
+
+first_bounds : (first : ℕ) (names : Names) (kept : Option ℕ) → IsFirstOf first names kept → ((c : Cell) → IsFrom first (names c)) → (c : Cell) → IsBounded (names c) kept
+first_bounds first names kept o late c = ⊎_elim
+    (λ e. subst (λ (n : Option ℕ). IsBounded (names c) n) (sym e) (bounded_by_first first (names c) (late c)))
+    (λ none. bounded_by_none (names c) kept (none c))
+    o
+
 module _ {E : Type 0} where
   pub kept_files_cover : (traces : Traces) (account : Account) (records : List (List (Item E))) (content : Content E) (bs : List (Filed E)) (first : ℕ)
       → IsKept traces account records content bs → ((group : ℕ) (c : Cell) → IsFrom first (file_of (traces group) (content group) c)) → Covers (content_of records) content (batches_from first bs)
@@ -55,10 +65,10 @@ module _ {E : Type 0} where
   abbrev Groups : Traces → Content E → Content E → Account → Type 0
   Groups traces older content account = (group : ℕ) → Bounds (traces group) (content group) (account group) × Knows (traces group) (older group) (content group) (account group) × TellsFiles (traces group) (content group) (account group)
 
-  abbrev account_after_item : ℕ → Item E → Account → Account
+  abbrev pub account_after_item : ℕ → Item E → Account → Account
   account_after_item file item account group = cond (nat_eq item.group group) (names_after file item.change (account group)) (account group)
 
-  abbrev account_after_items : ℕ → List (Item E) → Account → Account
+  abbrev pub account_after_items : ℕ → List (Item E) → Account → Account
   account_after_items file [] account = account
   account_after_items file (item ∷ items) account = account_after_items file items (account_after_item file item account)
 
@@ -94,7 +104,7 @@ module _ {E : Type 0} where
       by_set false r = refl
   either_test file names change c false r = refl
 
-  same_account : (file : ℕ) (items : List (Item E)) (account : Account) (group : ℕ) (c : Cell) → account_after_items file items account group c ≡ account_after file items account group c
+  pub same_account : (file : ℕ) (items : List (Item E)) (account : Account) (group : ℕ) (c : Cell) → account_after_items file items account group c ≡ account_after file items account group c
   same_account file [] account group c = refl
   same_account file (item ∷ items) account group c =
       same_account file items (account_after_item file item account) group c ∙ either_test file (account group) item.change c (nat_eq item.group group) (batch_sets items group c)
@@ -368,19 +378,23 @@ module _ {E : Type 0} where
       by_set group c true = le_trans h rise.0
       by_set group c false = late group c
 
-  opened_bounds : (first : ℕ) (ends : ℕ × ℕ) (t : Trace) (g : GroupContent E) (names : Names) → ((c : Cell) → IsFrom first (names c)) → Bounds (opened_trace first ends t names) g names
-  opened_bounds first ends t g names late presence = bounded_by_first first (names presence) (late presence)
-  opened_bounds first ends t g names late (index i) = by_place (nat_lt i ends.0) (nat_lt i ends.1)
+  entry_bounded : (o : Option E) (names file : Option ℕ) → (IsSome o → names ≡ file) → (o ≡ None → IsBounded names file) → IsBounded names file
+  entry_bounded None names file named hole = hole refl
+  entry_bounded (Some x) names file named hole = subst (λ (n : Option ℕ). IsBounded names n) (named refl) (bounded_by_own names)
+
+  opened_bounds : (first : ℕ) (t u : Trace) (g : GroupContent E) (names : Names) → ((c : Cell) → IsFrom first (names c)) → IsReplayed first t u g names → Bounds u g names
+  opened_bounds first t u g names late o presence = first_bounds first names u.since o.since late presence
+  opened_bounds first t u g names late o (index i) = by_place (nat_lt i u.low) refl (nat_lt i u.next) refl
     where
-      by_place : (l n : Bool) → IsBounded (names (index i)) (cond l (Some first) (cond n (names (index i)) (Some first)))
-      by_place true n = bounded_by_first first (names (index i)) (late (index i))
-      by_place false true = bounded_by_own (names (index i))
-      by_place false false = bounded_by_first first (names (index i)) (late (index i))
-  opened_bounds first ends t g names late (key k) = by_value (is_some (g.value k))
+      by_place : (l : Bool) → nat_lt i u.low ≡ l → (n : Bool) → nat_lt i u.next ≡ n → IsBounded (names (index i)) (cond l u.since (cond n (u.entry_file i) u.tail))
+      by_place true h n k = first_bounds first names u.since o.since late (index i)
+      by_place false h true k = entry_bounded (g.entry i) (names (index i)) (u.entry_file i) (o.files.entries_named i) (o.holes i (ltb-false i u.low h) (ltb-true i u.next k))
+      by_place false h false k = first_bounds first names u.tail o.tail late (index i)
+  opened_bounds first t u g names late o (key k) = by_value (is_some (g.value k)) refl
     where
-      by_value : (b : Bool) → IsBounded (names (key k)) (cond b (names (key k)) (Some first))
-      by_value true = bounded_by_own (names (key k))
-      by_value false = bounded_by_first first (names (key k)) (late (key k))
+      by_value : (b : Bool) → is_some (g.value k) ≡ b → IsBounded (names (key k)) (cond b (u.key_file k) u.since)
+      by_value true h = subst (λ (n : Option ℕ). IsBounded (names (key k)) n) (o.files.keys_named k h) (bounded_by_own (names (key k)))
+      by_value false h = first_bounds first names u.since o.since late (key k)
 
   first_removed : (t : Trace) (g : GroupContent E) → IsUnmarked t g → KnowsRemoved t g g (λ c. None)
   first_removed t g o = record {
@@ -391,34 +405,32 @@ module _ {E : Type 0} where
     keys_since = λ c. absurd (true≢false (sym c ∙ o.not_cleaned));
   }
 
-  pub replays_keep : (traces : Traces) (ends : ℕ → ℕ × ℕ) (records : List (List (Item E))) (bs : List (Filed E)) (first : ℕ)
+  pub replays_keep : (traces opened : Traces) (records : List (List (Item E))) (bs : List (Filed E)) (first : ℕ)
       → ((group : ℕ) → IsUnmarked (traces group) (content_of records group)) → FilesRise first bs
-      → ((group : ℕ) → HasEnds (after_batches (batches_of bs) (content_of records) group) (ends group) (traces_after_all bs traces group).top)
-      → IsKept (λ group. opened_trace first (ends group) (traces_after_all bs traces group) (account_after_all bs no_account group)) (account_after_all bs no_account)
-      records (after_batches (batches_of bs) (content_of records)) bs
-  replays_keep traces ends records bs first unmarked rise has = record {
+      → ((group : ℕ) → IsReplayed first (traces_after_all bs traces group) (opened group) (after_batches (batches_of bs) (content_of records) group) (account_after_all bs no_account group))
+      → IsKept opened (account_after_all bs no_account) records (after_batches (batches_of bs) (content_of records)) bs
+  replays_keep traces opened records bs first unmarked rise has = record {
     accounted = openings_account (content_of records) bs;
-    bounds = λ group. opened_bounds first (ends group) (traces_after_all bs traces group) (after_batches (batches_of bs) (content_of records) group) (account_after_all bs no_account group)
-        (names_late first first bs no_account (le_refl first) rise (λ g c. tt) group);
+    bounds = λ group. opened_bounds first (traces_after_all bs traces group) (opened group) (after_batches (batches_of bs) (content_of records) group) (account_after_all bs no_account group)
+        (names_late first first bs no_account (le_refl first) rise (λ g c. tt) group) (has group);
     knows = knows;
-    files = λ group. record { entries_named = λ i s. refl; keys_named = λ q s. refl };
+    files = λ group. (has group).files;
   }
     where
-      knows : (group : ℕ) → Knows (opened_trace first (ends group) (traces_after_all bs traces group) (account_after_all bs no_account group)) (content_of records group)
-          (after_batches (batches_of bs) (content_of records) group) (account_after_all bs no_account group)
+      knows : (group : ℕ) → Knows (opened group) (content_of records group) (after_batches (batches_of bs) (content_of records) group) (account_after_all bs no_account group)
       knows group =
-          let h = has group in
+          let o = has group in
           let r = all_removed bs traces (content_of records) (content_of records) no_account (λ g. first_removed (traces g) (content_of records g) (unmarked g)) group in
           record {
-            below = h.below;
-            above = h.above;
-            ends = h.ends_low;
-            empty_top = h.empty_top;
-            past = r.past;
-            gone = r.gone;
-            all_gone = r.all_gone;
-            entries_since = r.entries_since;
-            keys_since = r.keys_since;
+            below = o.below;
+            above = o.above;
+            ends = o.ends;
+            empty_top = o.empty_top;
+            past = λ c i h. r.past (sym o.cleaned ∙ c) i (le_trans o.top h);
+            gone = λ q h. r.gone q (sym (o.deleted q) ∙ h);
+            all_gone = λ c q h n. r.all_gone (sym o.cleaned ∙ c) q h (sym (o.deleted q) ∙ n);
+            entries_since = λ c. r.entries_since (sym o.cleaned ∙ c);
+            keys_since = λ c. r.keys_since (sym o.cleaned ∙ c);
           }
 
   -- ---- the rewrite queue is written anew

@@ -9,3 +9,4 @@ pub mod RewrittenLemmas
 pub mod KeptLemmas
 pub mod FileLemmas
 pub mod JoinedLemmas
+pub mod PlacedLemmas

@@ -1,17 +1,18 @@
 -- The invariant of two queues and of memtables, and what keeps it.
-use Rattle.std.specs.Prelude.{◌≡◌, ◌≤◌, ◌<◌, ◌+◌, ℕ, true, false, if◌then◌else◌, nat_eq, nat_le, List, [], ◌∷◌, ◌++◌, length, IsSome, Some, None, drop}
+use Rattle.std.specs.Prelude.{◌≡◌, ◌⊎◌, ◌≤◌, ◌<◌, ◌+◌, ℕ, true, false, if◌then◌else◌, nat_eq}
+use Rattle.std.specs.Prelude.{nat_le, List, [], ◌∷◌, ◌++◌, length, IsSome, Option, Some, None, drop}
 use Rattle.raft_log_records.specs.Item.{Item}
 use Rattle.raft_log_records.specs.Item.Change.{entries, clean, put}
 use Rattle.raft_log_records.specs.Spelling.{first_index}
 use Rattle.raft_log_memtables.specs.Content.{GroupContent, Content, no_group, nothing, after_batch}
 use Rattle.raft_log_memtables.specs.Replay.{content_of}
 use Rattle.raft_log_covers.specs.Cells.{Cell, held, after_batches, AreUnmarked}
-use Rattle.raft_log_covers.specs.Cells.Cell.{index, key}
+use Rattle.raft_log_covers.specs.Cells.Cell.{index}
 use Rattle.raft_log_covers.specs.Queues.{Filed, batches_of, batches_from, FilesRise, Covers}
 use Rattle.raft_log_covers.specs.Written.{Written, AreWritten, all_records}
 use Rattle.raft_log_covers.specs.Account.{Account, IsFrom, IsAccounted, no_account, account_after, account_after_all}
-use Rattle.raft_log_covers.specs.Marks.{Names, of_group, with_group, marks, MayRewrite, names_after_marks, names_after_entries, names_after_put}
-use Rattle.raft_log_covers.specs.Trace.{Trace, file_of, Bounds, Knows, TellsFiles, GoOn, AreRun, trace_after, trace_marked, trace_rewritten, trace_put, settled_by}
+use Rattle.raft_log_covers.specs.Marks.{Names, is_in, of_group, with_group, marks, MayRewrite, names_after_marks, names_after_entries, names_after_put}
+use Rattle.raft_log_covers.specs.Trace.{Trace, file_of, IsBounded, Bounds, Knows, TellsFiles, GoOn, AreRun, trace_after, trace_marked, trace_rewritten, trace_put, settled_by}
 
 abbrev pub Traces : Type 0
 Traces = ℕ → Trace
@@ -142,26 +143,25 @@ abbrev pub traces_after_all : {E : Type 0} → List (Filed E) → Traces → Tra
 traces_after_all [] traces = traces
 traces_after_all (b ∷ bs) traces = traces_after_all bs (traces_after b.file b.items traces)
 
--- The trace of a group after the replay. Its ends are those of the entries that are there; the files of entries and keys are those
--- in which they stand; for all else there is the first append file.
-abbrev pub opened_trace : ℕ → ℕ × ℕ → Trace → Names → Trace
-opened_trace first ends t names = record {
-  low = ends.0;
-  next = ends.1;
-  top = t.top;
-  since = Some first;
-  tail = Some first;
-  entry_file = λ i. names (index i);
-  key_file = λ k. names (key k);
-  cleaned = t.cleaned;
-  deleted = t.deleted;
-}
+-- there is this file, or nothing is named
+abbrev pub IsFirstOf : ℕ → Names → Option ℕ → Type 0
+IsFirstOf first names kept = (kept ≡ Some first) ⊎ ((c : Cell) → names c ≡ None)
 
-pub record HasEnds {E : Type 0} (g : GroupContent E) (ends : ℕ × ℕ) (top : ℕ) : Type 0 where
-  pub below : (i : ℕ) → i < ends.0 → g.entry i ≡ None
-  pub above : (i : ℕ) → ends.0 ≤ i → ends.1 ≤ i → g.entry i ≡ None
-  pub ends_low : ends.1 ≤ top
-  pub empty_top : ends.1 ≤ ends.0 → top ≤ ends.0
+-- What the trace of a group has to say after the replay, where t is what the batches made of it. Its ends are those of the entries
+-- that are there. They and the keys that are there stand in the files that the account names; at a hole the file isn't after that
+-- one. For all else there is the first append file, if the account names any.
+pub record IsReplayed {E : Type 0} (first : ℕ) (t opened : Trace) (g : GroupContent E) (names : Names) : Type 0 where
+  pub below : (i : ℕ) → i < opened.low → g.entry i ≡ None
+  pub above : (i : ℕ) → opened.low ≤ i → opened.next ≤ i → g.entry i ≡ None
+  pub ends : opened.next ≤ opened.top
+  pub empty_top : opened.next ≤ opened.low → opened.top ≤ opened.low
+  pub top : t.top ≤ opened.top
+  pub since : IsFirstOf first names opened.since
+  pub tail : IsFirstOf first names opened.tail
+  pub files : TellsFiles opened g names
+  pub holes : (i : ℕ) → opened.low ≤ i → i < opened.next → g.entry i ≡ None → IsBounded (names (index i)) (opened.entry_file i)
+  pub cleaned : opened.cleaned ≡ t.cleaned
+  pub deleted : (k : List ℕ) → is_in k opened.deleted ≡ is_in k t.deleted
 
 -- what the rewrite queue alone leaves of a trace
 pub record IsUnmarked {E : Type 0} (t : Trace) (g : GroupContent E) : Type 0 where
@@ -170,11 +170,10 @@ pub record IsUnmarked {E : Type 0} (t : Trace) (g : GroupContent E) : Type 0 whe
   pub none_deleted : t.deleted ≡ []
 
 abbrev pub ReplaysKeep : Type 0 → Type 0
-ReplaysKeep E = (traces : Traces) (ends : ℕ → ℕ × ℕ) (records : List (List (Item E))) (bs : List (Filed E)) (first : ℕ)
+ReplaysKeep E = (traces opened : Traces) (records : List (List (Item E))) (bs : List (Filed E)) (first : ℕ)
     → ((group : ℕ) → IsUnmarked (traces group) (content_of records group)) → FilesRise first bs
-    → ((group : ℕ) → HasEnds (after_batches (batches_of bs) (content_of records) group) (ends group) (traces_after_all bs traces group).top)
-    → IsKept (λ group. opened_trace first (ends group) (traces_after_all bs traces group) (account_after_all bs no_account group)) (account_after_all bs no_account)
-    records (after_batches (batches_of bs) (content_of records)) bs
+    → ((group : ℕ) → IsReplayed first (traces_after_all bs traces group) (opened group) (after_batches (batches_of bs) (content_of records) group) (account_after_all bs no_account group))
+    → IsKept opened (account_after_all bs no_account) records (after_batches (batches_of bs) (content_of records)) bs
 
 -- ---- the rewrite queue is written anew
 

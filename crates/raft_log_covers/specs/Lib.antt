@@ -6,3 +6,4 @@ pub mod Marks
 pub mod Trace
 pub mod Kept
 pub mod Joined
+pub mod Placed

@@ -6,6 +6,8 @@ ghost use Rattle.raft_log_covers.specs.Kept.{KeptFilesCover};
 ghost use Rattle.raft_log_covers.specs.Kept.{OpeningsKeep, NewQueuesAreKept, CleansKeep, FilesStay};
 ghost use Rattle.raft_log_covers.specs.Kept.{KeptQueuesReadAsTheContent, ReplaysKeep};
 ghost use Rattle.raft_log_covers.specs.Kept.{OldRecordsMayGo, WholeGroupsGiveAll};
+ghost use Rattle.raft_log_covers.specs.Placed.{PlacesTellFiles, TracesTellKeys};
+ghost use Rattle.raft_log_records.specs.declared.item.EntryIndex.{EntryIndex};
 
 /// What memtables keep of each group tells, over all writes and all that cleaning writes, which
 /// append files may go: those before the least file that they keep.
@@ -42,4 +44,11 @@ pub fn cleaning_names_no_earlier_file()
 pub fn old_records_may_go()
     ensures go { OldRecordsMayGo (List ℕ) }
     ensures given { WholeGroupsGiveAll (List ℕ) }
+{}
+
+/// After a replay the file that an account names is told by what is there: of an entry by its place,
+/// of a key by traces that were kept over the batches of the append queue.
+pub fn replays_tell_files()
+    ensures entries { PlacesTellFiles EntryIndex }
+    ensures keys { TracesTellKeys EntryIndex }
 {}

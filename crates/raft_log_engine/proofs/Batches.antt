@@ -11,7 +11,7 @@ use Rattle.raft_log_file.specs.Laws.{Batch}
 use Rattle.raft_log_pipe.specs.Pipe.{Numbered}
 use Rattle.raft_log_memtables.specs.Content.{Content, after_batch, nothing}
 use Rattle.raft_log_memtables.specs.Replay.{Replay, after_marked, after_record, after_records, content_of, mark_in, mark_of}
-use Rattle.raft_log_engine.specs.Held.{content_of_batches}
+use Rattle.raft_log_blocks.specs.Held.{content_of_batches}
 
 -- ---- a batch without marks counts at once
 

@@ -10,7 +10,7 @@ use Rattle.raft_log_engine.specs.declared.block_cache.BlockKey.{BlockKey}
 use Rattle.raft_log_records.specs.declared.item.EntryIndex.{EntryIndex}
 use Rattle.raft_log_disk.specs.Disk.{Disk}
 use Rattle.raft_log_pipes.specs.declared.pipes.DualPipes.{DualPipes}
-use Rattle.raft_log_engine.specs.Blocks.{IsReadAs}
+use Rattle.raft_log_blocks.specs.Blocks.{IsReadAs}
 use Rattle.raft_log_engine.specs.Cached.{Keeps, KeepsIn, KeepsMore}
 
 abbrev Cache : Type 0

@@ -1,7 +1,8 @@
 -- Why calls of an engine are refused: errors and their causes.
-use Rattle.std.proofs.Common.{◌≡◌, ◌⊎◌, inl, inr, ℕ, ◌<◌, ◌≤◌, Bool, true, false, [], ◌∷◌, List, Option, Some, refl, sym, subst, arith}
+use Rattle.std.proofs.Common.{◌≡◌, ◌⊎◌, inl, inr, ℕ, ◌<◌, ◌≤◌, Bool, true, false, [], ◌∷◌, List, Option, Some, refl, sym, ap, subst, arith}
 use Rattle.std.specs.Prelude.{Contains, Result, Ok, Err, IfErr}
 use Rattle.std.proofs.lemmas.Bool.{false≢true}
+use Rattle.raft_log_records.specs.declared.file_id.FileBlockHandle.{FileBlockHandle}
 use Rattle.raft_log_records.specs.declared.item.EntryIndex.{EntryIndex}
 use Rattle.raft_log_disk.specs.Disk.{Disk}
 use Rattle.raft_log_disk.specs.Cause.{Meter}
@@ -15,12 +16,19 @@ use Rattle.raft_log_memtables.specs.declared.fetch.FetchError.TheVariants as fet
 use Rattle.raft_log_memtables.specs.declared.memtables.MemTables.{MemTables}
 use Rattle.raft_log_memtables.specs.Content.{GroupContent}
 use Rattle.raft_log_memtables.specs.Fetch.{Fetches}
-use Rattle.raft_log_engine.specs.Caused.{IsCausedBy, IsCompactionFault, IsCopyFault, IsFetchFault, IsSyncFault, IsWriteFault, fetch_fault}
-use Rattle.raft_log_engine.specs.Held.{Parts}
+use Rattle.raft_log_engine.specs.Caused.{IsCausedBy, IsCompactionFault, IsCopyFault, IsFetchFault, IsSyncFault, IsUnread, IsWriteFault, fetch_fault}
+use Rattle.raft_log_blocks.specs.Unread.{IsUnread as IsUnreadFor}
+use Rattle.raft_log_engine.specs.Parts.{Parts}
 use Rattle.raft_log_engine.specs.Reads.{compaction}
 use Rattle.raft_log_engine.specs.Taken.{IsMarked, IsNotTaken, IsRefusedBatch}
 use Rattle.raft_log_engine.specs.declared.fault.EngineFault.{EngineFault}
 use Rattle.raft_log_engine.specs.declared.fault.EngineFault.TheVariants.{Log, NotTaken, Marked, NotAMessage, Stopped}
+
+-- ---- a block that isn't read
+
+pub log_unread : (d : Disk) (p : DualPipes) (m : Meter) (h : FileBlockHandle) (x : Error) → IsUnreadFor d p m h x → IsUnread d p m h (Log x)
+log_unread d p m h x (inl memory) = inl (ap Log memory)
+log_unread d p m h x (inr (is, there)) = inr (ap Log is, there)
 
 -- ---- writes
 

@@ -27,11 +27,13 @@ use Rattle.raft_content_log.specs.Leaving.{AgreesElsewhere, IsEither, IsWritten,
 use Rattle.raft_content_log.proofs.Elsewhere.{unnamed_stays}
 use Rattle.raft_log_engine.specs.declared.block_cache.BlockCache.{BlockCache}
 use Rattle.raft_log_engine.specs.Cached.{HoldsBlocks}
-use Rattle.raft_log_engine.specs.Held.{HoldsBatches, HoldsMore, IsHeld, IsKept, IsPlace, IsTabled, Parts, content_of_batches, seen_on}
+use Rattle.raft_log_blocks.specs.Held.{HoldsBatches, HoldsMore, IsHeld, IsKept, IsPlace, IsTabled, content_of_batches, seen_on}
+use Rattle.raft_log_engine.specs.Parts.{Parts}
 use Rattle.raft_log_engine.specs.Left.{IsAccount, IsSound, MayLeave, answers_on, leaves_on}
 use Rattle.raft_log_engine.proofs.Appended.{all_more, both_parts, more_leaves}
 use Rattle.raft_log_engine.proofs.Settled.{settled_more}
-use Rattle.raft_log_engine.proofs.Tables.{answered, held_answered, held_kept, kept_held, more_content, more_tabled}
+use Rattle.raft_log_blocks.proofs.HeldLemmas.{answered, held_answered, held_kept, kept_held}
+use Rattle.raft_log_engine.proofs.Tables.{more_content, more_tabled}
 
 abbrev Seen : Type 0
 Seen = Content (List ℕ)

@@ -21,7 +21,7 @@ use Rattle.raft_log_memtables.specs.Content.{Content}
 use Rattle.raft_log_pipe.specs.Alone.{Names}
 use Rattle.raft_log_pipes.specs.declared.pipes.DualPipes.{DualPipes}
 use Rattle.raft_log_recovery.specs.Crashed.{IsCrashed}
-use Rattle.raft_log_engine.specs.Held.{Parts}
+use Rattle.raft_log_engine.specs.Parts.{Parts}
 use Rattle.raft_log_engine.specs.Log.{CantBeLeftSo, IsCrashedLog, IsFoundBy, IsLog, IsSameLog, LogOn, MayBeFound, leaves_of_log, main_directory}
 use Rattle.raft_log_engine.specs.Reopened.{OpensInTail, StandAlone, directories_of_engine, directories_of_pipes}
 use Rattle.raft_log_engine.proofs.Logs.{found_as_read}

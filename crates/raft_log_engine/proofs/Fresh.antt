@@ -19,7 +19,7 @@ use Rattle.raft_log_recovery.specs.Again.{FindsSound}
 use Rattle.raft_log_recovery.specs.Opening.{batches_of}
 use Rattle.raft_log_recovery.specs.Queue.{AreOpen}
 use Rattle.raft_log_recovery.specs.Scan.{AreFound, AreInDirectories, files_named}
-use Rattle.raft_log_engine.specs.Held.{content_of_batches}
+use Rattle.raft_log_blocks.specs.Held.{content_of_batches}
 use Rattle.raft_log_engine.specs.Opening.{IsFoundContent}
 
 none_permuted : {X : Type 0} (xs ys : List X) → xs ≡ [] → IsPermutation xs ys → ys ≡ []

@@ -1,7 +1,6 @@
 pub mod Appended
 pub mod Batches
 pub mod CacheLemmas
-pub mod EntryReads
 pub mod Fetched
 pub mod Fresh
 pub mod Clauses
@@ -20,5 +19,4 @@ pub mod Crashes
 pub mod Taken
 pub mod Corrupt
 pub mod Caused
-pub mod Whole
 pub mod Unopened

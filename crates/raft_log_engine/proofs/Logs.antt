@@ -16,7 +16,7 @@ use Rattle.raft_log_files.specs.declared.recovery.RecoveryMode.{RecoveryMode}
 use Rattle.raft_log_memtables.specs.Content.{Content, after_batch}
 use Rattle.raft_content_log.specs.Leaving.{IsEither, IsWritten, LeavesEither, LeavesElsewhere, LeavesOnly, MayBeWritten}
 use Rattle.raft_log_recovery.specs.Crashed.{IsCrashed}
-use Rattle.raft_log_engine.specs.Held.{Parts}
+use Rattle.raft_log_engine.specs.Parts.{Parts}
 use Rattle.raft_log_engine.specs.Left.{answers_on}
 use Rattle.raft_log_engine.specs.Log.{IsFoundBy, LogOn, MayBeFound, leaves_of_log, main_directory}
 use Rattle.raft_log_engine.specs.Opening.{IsFoundContent}

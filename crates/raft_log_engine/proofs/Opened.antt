@@ -38,7 +38,7 @@ use Rattle.raft_log_recovery.specs.Opening.{AreAllGot, AreGot, IsGot, IsPipeWith
 use Rattle.raft_log_recovery.specs.Replay.{Placed}
 use Rattle.raft_log_replay.specs.Batches.{content_over, records_in}
 use Rattle.raft_log_engine.specs.Opening.{AreFoundIn, IsFoundAgain, IsRecoveredAs, LeavesFound}
-use Rattle.raft_log_engine.specs.Held.{IsTabled, LiesIn}
+use Rattle.raft_log_blocks.specs.Held.{IsTabled, LiesIn}
 use Rattle.raft_log_engine.proofs.Again.{made_sound}
 use Rattle.raft_log_engine.proofs.Tables.{put_lengths}
 

@@ -32,12 +32,13 @@ use Rattle.raft_content_log.specs.Leaving.{IsEither}
 use Rattle.raft_log_recovery.specs.Crashed.{IsCrashed, OpensWith}
 use Rattle.raft_log_recovery.specs.Scan.{OnlyMakes}
 use Rattle.raft_log_recovery.proofs.CrashLemmas.{crashed_found}
-use Rattle.raft_log_engine.specs.Held.{IsKept, Parts, content_of_batches, seen_on}
+use Rattle.raft_log_blocks.specs.Held.{IsKept, content_of_batches, seen_on}
+use Rattle.raft_log_engine.specs.Parts.{Parts}
 use Rattle.raft_log_engine.specs.Left.{answers_on}
 use Rattle.raft_log_engine.specs.Opening.{IsFoundContent}
 use Rattle.raft_log_engine.specs.Reopened.{OpensAs, OpensAsEither, StandAlone, StandsAlone, directories_of_engine, directories_of_pipes}
 use Rattle.raft_log_engine.proofs.Clauses.{HeldBy, IsDone, KeptBy, done_kept, last_or_not, more}
-use Rattle.raft_log_engine.proofs.Tables.{answered, kept_held}
+use Rattle.raft_log_blocks.proofs.HeldLemmas.{answered, kept_held}
 
 abbrev Seen : Type 0
 Seen = Content (List ℕ)

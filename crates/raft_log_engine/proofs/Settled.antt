@@ -19,11 +19,14 @@ use Rattle.raft_log_memtables.specs.declared.memtables.MemTables.{MemTables}
 use Rattle.raft_log_memtables.specs.ContentLaws.{content_map}
 use Rattle.raft_log_memtables.specs.MemTables.{content_in}
 use Rattle.raft_log_engine.specs.declared.block_cache.BlockCache.{BlockCache}
-use Rattle.raft_log_engine.specs.Blocks.{IsReadAs, block_on}
-use Rattle.raft_log_engine.specs.Cached.{AreRead, HoldsBlocks, IsSettled, Keeps, KeepsMore, ReadsBlocks}
-use Rattle.raft_log_engine.specs.Held.{IsHeld, LiesIn, ReadsEntries, bytes_on, bytes_placed}
-use Rattle.raft_log_engine.proofs.EntryReads.{disk_reads_blocks}
-use Rattle.raft_log_engine.proofs.Tables.{held_answered, more_lies, same_lies}
+use Rattle.raft_log_blocks.specs.Blocks.{IsReadAs, block_on}
+use Rattle.raft_log_blocks.specs.Held.{ReadsBlocks}
+use Rattle.raft_log_engine.specs.Cached.{AreRead, HoldsBlocks, IsSettled, Keeps, KeepsMore}
+use Rattle.raft_log_blocks.specs.Held.{IsHeld, LiesIn, ReadsEntries}
+use Rattle.raft_log_blocks.specs.Placed.{bytes_on, bytes_placed}
+use Rattle.raft_log_blocks.proofs.HeldLemmas.{not_longer, some_same}
+use Rattle.raft_log_blocks.proofs.EntryReads.{disk_reads_blocks}
+use Rattle.raft_log_blocks.proofs.HeldLemmas.{held_answered, more_lies, same_lies}
 
 -- ---- one is read as the batches say
 
@@ -36,9 +39,6 @@ settled_read d p tables r s u held h b settled = sym (settled (block_on d p) (di
 abbrev told_apart : Disk → DualPipes → (FileBlockHandle → List ℕ) → EntryIndex → Option FileBlockHandle → List ℕ
 told_apart d p read e None = []
 told_apart d p read e (Some h) = entry_bytes (block_on d p h) e ++ cond (bytes_eq (read h) (block_on d p h)) [] (0 ∷ [])
-
-pub not_longer : (l : List ℕ) → l ++ 0 ∷ [] ≡ l → ⊥
-not_longer l is = omega (arith, length-append l (0 ∷ []), ap length is)
 
 same_block : (d : Disk) (p : DualPipes) (read : FileBlockHandle → List ℕ) (e : EntryIndex) (h : FileBlockHandle) → e.entries ≡ Some h → told_apart d p read e e.entries ≡ bytes_on d p e → read h ≡ block_on d p h
 same_block d p read e h place is = by_test (bytes_eq (read h) (block_on d p h)) refl
@@ -64,11 +64,6 @@ lying_told d p q bs read e bytes lies is on =
 all_told : (d : Disk) (p : DualPipes) (r bs : Numbered) (read : FileBlockHandle → List ℕ) → ReadsBlocks p r bs read → ReadsBlocks p r bs (block_on d p) → ReadsEntries p r bs (λ e. told_apart d p read e e.entries)
 all_told d p r bs read reads on e bytes (inl lies) = lying_told d p p.rewrite r read e bytes lies (reads.rewrite e bytes lies) (on.rewrite e bytes lies)
 all_told d p r bs read reads on e bytes (inr lies) = lying_told d p p.append bs read e bytes lies (reads.append e bytes lies) (on.append e bytes lies)
-
-pub some_same : (one other : EntryIndex → List ℕ) (o : Option EntryIndex) (e : EntryIndex) → option_map one o ≡ option_map other o → o ≡ Some e → one e ≡ other e
-some_same one other o e same is =
-    let both : Some (one e) ≡ Some (other e) = ap (option_map one) (sym is) ∙ same ∙ ap (option_map other) is in
-    cc
 
 pub read_settled : (d : Disk) (p : DualPipes) (tables : MemTables) (r s u : Numbered) → IsHeld d p tables r s u → (group index : ℕ) (e : EntryIndex) (h : FileBlockHandle) (b : List ℕ)
     → (content_in tables group).entry index ≡ Some e → e.entries ≡ Some h → IsReadAs d p h b → IsSettled p r (s ++ u) h b

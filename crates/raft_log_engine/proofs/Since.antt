@@ -15,7 +15,8 @@ use Rattle.raft_log_pipe.specs.Pipe.{Holds, Leaves, Numbered}
 use Rattle.raft_log_pipe.proofs.AloneLemmas.{nearly}
 use Rattle.raft_log_pipe.proofs.PipeLemmas.{holds_leaves}
 use Rattle.raft_log_memtables.specs.Content.{Content, after_batch}
-use Rattle.raft_log_engine.specs.Held.{HoldsMore, Parts, content_of_batches}
+use Rattle.raft_log_blocks.specs.Held.{HoldsMore, content_of_batches}
+use Rattle.raft_log_engine.specs.Parts.{Parts}
 use Rattle.raft_log_engine.specs.Reopened.{OpensAsFront, StandsAlone, directories_of_engine, directories_of_pipes}
 use Rattle.raft_log_engine.specs.Since.{HasWritten, after_batches, unnumbered, written_batch}
 use Rattle.raft_log_engine.proofs.Batches.{one_more_batch}

@@ -11,12 +11,13 @@ use Rattle.raft_log_pipes.specs.declared.pipes.DualPipes.{DualPipes}
 use Rattle.raft_log_pipes.specs.Pipes.{ArePipes, IsAsBefore}
 use Rattle.raft_log_memtables.specs.Content.{Content, after_batch}
 use Rattle.raft_content_log.specs.Leaving.{AgreesElsewhere, IsWritten, LeavesElsewhere, LeavesNoMore, MayBeWritten}
-use Rattle.raft_log_engine.specs.Held.{IsKept, Parts, seen_on}
+use Rattle.raft_log_blocks.specs.Held.{IsKept, seen_on}
+use Rattle.raft_log_engine.specs.Parts.{Parts}
 use Rattle.raft_log_engine.specs.Left.{IsSound, MayLeave, answers_on, leaves_on}
 use Rattle.raft_log_engine.specs.Reopened.{OpensAs, OpensAsEither, StandsAlone, directories_of_engine, directories_of_pipes}
 use Rattle.raft_log_engine.proofs.Clauses.{HeldBy, is_left, kept_by, only_left}
 use Rattle.raft_log_engine.proofs.Reopened.{kept_opens, synced_stands}
-use Rattle.raft_log_engine.proofs.Tables.{answered, kept_on}
+use Rattle.raft_log_blocks.proofs.HeldLemmas.{answered, kept_on}
 
 abbrev Seen : Type 0
 Seen = Content (List ℕ)

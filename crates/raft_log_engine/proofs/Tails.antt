@@ -22,7 +22,8 @@ use Rattle.raft_log_pipes.specs.Pipes.{IsAsBefore, pipe_of}
 use Rattle.raft_log_memtables.specs.Content.{Content}
 use Rattle.raft_log_recovery.specs.Crashed.{HasLastingHole, IsCrashed}
 use Rattle.raft_log_recovery.proofs.TailLemmas.{torn_opened}
-use Rattle.raft_log_engine.specs.Held.{HoldsMore, Parts}
+use Rattle.raft_log_blocks.specs.Held.{HoldsMore}
+use Rattle.raft_log_engine.specs.Parts.{Parts}
 use Rattle.raft_log_engine.specs.Opening.{CantBeOpened}
 use Rattle.raft_log_engine.specs.Reopened.{OpensInTail, StandAlone, StandsAlone, StandsInTail, directories_of_engine, directories_of_pipes}
 use Rattle.raft_log_engine.specs.Since.{HasWritten}

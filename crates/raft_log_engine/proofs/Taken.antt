@@ -22,7 +22,7 @@ use Rattle.raft_log_pipe.specs.declared.pipe.SinglePipe.{SinglePipe}
 use Rattle.raft_log_pipe.specs.Taken.{IsAppendTaken, IsBarred, IsFull, IsOkOrMemory, IsTakenBy, IsTooLarge, IsUnmade, IsUnnumbered, NeedsFile}
 use Rattle.raft_log_pipe.proofs.TakenLemmas.{exit_error, taken_for}
 use Rattle.raft_log_memtables.specs.declared.memtables.MemTables.{MemTables}
-use Rattle.raft_log_engine.specs.Held.{Parts}
+use Rattle.raft_log_engine.specs.Parts.{Parts}
 use Rattle.raft_log_engine.specs.Reads.{compaction}
 use Rattle.raft_log_engine.specs.Taken.{IsCompactionTaken, IsMarked, IsNotTaken, IsRefusedBatch, IsSyncTaken, IsTakenUnless, IsWriteTaken}
 use Rattle.raft_log_engine.specs.declared.fault.EngineFault.{EngineFault}

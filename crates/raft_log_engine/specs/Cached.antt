@@ -11,8 +11,8 @@ use Rattle.raft_log_pipes.specs.declared.pipes.DualPipes.{DualPipes}
 use Rattle.raft_log_memtables.specs.declared.memtables.MemTables.{MemTables}
 use Rattle.raft_log_engine.specs.declared.block_cache.BlockCache.{BlockCache}
 use Rattle.raft_log_engine.specs.declared.block_cache.BlockKey.{BlockKey}
-use Rattle.raft_log_engine.specs.Blocks.{IsReadAs}
-use Rattle.raft_log_engine.specs.Held.{HoldsBatches, LiesIn}
+use Rattle.raft_log_blocks.specs.Blocks.{IsReadAs}
+use Rattle.raft_log_blocks.specs.Held.{ReadsBlocks, HoldsBatches, LiesIn}
 
 abbrev pub KeepsIn : Option (LruCache BlockKey (Vec ℕ Global)) → FileBlockHandle → List ℕ → Type 0
 KeepsIn None handle entries = ⊥
@@ -32,11 +32,6 @@ KeepsMore d p IsAsked old new = (handle : FileBlockHandle) (entries : List ℕ) 
     → Keeps old handle entries ⊎ ((e : EntryIndex) × IsAsked e × (e.entries ≡ Some handle) × IsReadAs d p handle entries)
 
 -- ---- what writes leave of kept blocks
-
--- each block of a batch of either queue is read as it was written
-pub record ReadsBlocks (p : DualPipes) (rewrites appends : Numbered) (read : FileBlockHandle → List ℕ) : Type 0 where
-  pub rewrite : (e : EntryIndex) (bytes : List ℕ) → (lies : LiesIn p.rewrite rewrites e bytes) → read lies.handle ≡ block_of lies.items
-  pub append : (e : EntryIndex) (bytes : List ℕ) → (lies : LiesIn p.append appends e bytes) → read lies.handle ≡ block_of lies.items
 
 -- however such blocks are read, this one is read as these entries
 abbrev pub IsSettled : DualPipes → Numbered → Numbered → FileBlockHandle → List ℕ → Type 0

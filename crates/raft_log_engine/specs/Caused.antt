@@ -17,7 +17,7 @@ use Rattle.raft_log_memtables.specs.declared.fetch.FetchError.{FetchError}
 use Rattle.raft_log_memtables.specs.declared.fetch.FetchError.TheVariants as fetch
 use Rattle.raft_log_memtables.specs.Content.{GroupContent}
 use Rattle.raft_log_memtables.specs.Fetch.{IsCompacted, IsLacking}
-use Rattle.raft_log_engine.specs.Held.{Parts}
+use Rattle.raft_log_engine.specs.Parts.{Parts}
 use Rattle.raft_log_engine.specs.Reads.{IsStopped}
 use Rattle.raft_log_engine.specs.Taken.{IsMarked, IsNotTaken}
 use Rattle.raft_log_engine.specs.declared.fault.EngineFault.{EngineFault}

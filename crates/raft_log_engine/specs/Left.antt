@@ -4,7 +4,8 @@ use Rattle.raft_log_disk.specs.Disk.{Disk}
 use Rattle.raft_log_pipe.specs.Pipe.{Numbered, Leaves}
 use Rattle.raft_log_pipes.specs.declared.pipes.DualPipes.{DualPipes}
 use Rattle.raft_log_memtables.specs.Content.{Content}
-use Rattle.raft_log_engine.specs.Held.{Parts, content_of_batches, seen_on}
+use Rattle.raft_log_blocks.specs.Held.{content_of_batches, seen_on}
+use Rattle.raft_log_engine.specs.Parts.{Parts}
 
 -- An account of the files: whatever a crash leaves of the rewrite queue reads as these batches, and of the append queue as
 -- others and a front of further ones. Unless a write has failed the first two have the content that is answered

@@ -1,6 +1,5 @@
-pub mod Blocks
 pub mod Cached
-pub mod Held
+pub mod Parts
 pub mod Left
 pub mod Log
 pub mod Opening

@@ -11,7 +11,7 @@ use Rattle.raft_log_disk.specs.declared.crash.CrashRefusal.TheVariants.{ByChance
 use Rattle.raft_log_files.specs.declared.config.Config.{Config}
 use Rattle.raft_log_memtables.specs.Content.{Content}
 use Rattle.raft_log_recovery.specs.Crashed.{IsCrashed}
-use Rattle.raft_log_engine.specs.Held.{Parts}
+use Rattle.raft_log_engine.specs.Parts.{Parts}
 use Rattle.raft_log_engine.specs.Left.{IsSound, answers_on}
 use Rattle.raft_log_engine.specs.Opening.{IsFoundContent}
 use Rattle.raft_log_engine.specs.Reopened.{OpensInTail, StandsAlone, directories_of_engine}

@@ -21,7 +21,7 @@ use Rattle.raft_log_recovery.specs.Crashed.{HasHole}
 use Rattle.raft_log_recovery.specs.Opening.{AnyAligned}
 use Rattle.raft_log_recovery.specs.Queue.{AnyRefused}
 use Rattle.raft_log_recovery.specs.Scan.{AreFound, OnlyMakes}
-use Rattle.raft_log_engine.specs.Held.{IsKept, content_of_batches}
+use Rattle.raft_log_blocks.specs.Held.{IsKept, content_of_batches}
 
 -- The content of the batches that the files of each queue read as, up to the first fault of each file: those of the rewrite
 -- queue, then those of the append queue. No file has a fault that the mode refuses

@@ -13,7 +13,7 @@ use Rattle.raft_log_pipes.specs.Pipes.{pipe_of}
 use Rattle.raft_log_memtables.specs.Content.{Content}
 use Rattle.raft_log_recovery.specs.Crashed.{HasLastingHole, IsCrashed}
 use Rattle.raft_content_log.specs.Leaving.{IsEither}
-use Rattle.raft_log_engine.specs.Held.{Parts}
+use Rattle.raft_log_engine.specs.Parts.{Parts}
 use Rattle.raft_log_engine.specs.Opening.{CantBeOpened, IsFoundContent}
 use Rattle.raft_log_engine.specs.Since.{after_batches}
 

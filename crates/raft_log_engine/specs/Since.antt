@@ -6,7 +6,8 @@ use Rattle.raft_log_disk.specs.Disk.{Disk}
 use Rattle.raft_log_file.specs.Laws.{Batch}
 use Rattle.raft_log_pipe.specs.Pipe.{Holds, Numbered}
 use Rattle.raft_log_memtables.specs.Content.{Content, after_batch}
-use Rattle.raft_log_engine.specs.Held.{Parts, content_of_batches}
+use Rattle.raft_log_blocks.specs.Held.{content_of_batches}
+use Rattle.raft_log_engine.specs.Parts.{Parts}
 
 -- a content after batches, in their order
 abbrev pub after_batches : List Batch → Content (List ℕ) → Content (List ℕ)

@@ -10,7 +10,7 @@ use Rattle.raft_log_pipe.specs.Taken.{IsBarred, IsFull, IsTakenBy, IsTooLarge, I
 use Rattle.raft_log_memtables.specs.declared.memtables.MemTables.{MemTables}
 use Rattle.raft_log_memtables.specs.MemTables.{content_in}
 use Rattle.raft_log_memtables.specs.Taken.{TakesEach}
-use Rattle.raft_log_engine.specs.Held.{Parts}
+use Rattle.raft_log_engine.specs.Parts.{Parts}
 use Rattle.raft_log_engine.specs.Reads.{compaction}
 use Rattle.raft_log_engine.specs.declared.fault.EngineFault.{EngineFault}
 use Rattle.raft_log_engine.specs.declared.fault.EngineFault.TheVariants.{Log, NotTaken, Marked, NotAMessage, Stopped}

@@ -1,9 +1,9 @@
 //! Entries and their blocks.
 ghost use Rattle.std.specs.Prelude.{◌≡◌, ◌⊎◌, ◌+◌, ◌≤◌, Contains, IfErr, IfOk, length, map};
-ghost use Rattle.raft_log_engine.specs.Blocks.{HasBlock, IsReadAs, StandsWhole};
+ghost use Rattle.raft_log_blocks.specs.Blocks.{HasBlock, IsReadAs, StandsWhole};
 ghost use Rattle.raft_log_engine.specs.Cached.{AreRead, KeepsMore};
 ghost use Rattle.raft_log_engine.specs.Caused.{IsCopyFault, IsUnread, fetch_fault};
-ghost use Rattle.raft_log_engine.specs.Held.{bytes_on};
+ghost use Rattle.raft_log_blocks.specs.Placed.{bytes_on};
 ghost use Rattle.raft_log_engine.specs.declared.fault.EngineFault.TheVariants.{Log};
 ghost use Rattle.raft_log_files.specs.declared.error.CorruptionFault.TheVariants.{Record};
 ghost use Rattle.raft_log_files.specs.declared.error.Error.TheVariants.{Corruption, Memory};
@@ -18,7 +18,7 @@ use crate::fault::EngineFault;
 use raft_log_files::{CorruptionFault, Error, FileSystem};
 use raft_log_memtables::FetchError;
 use raft_log_pipes::DualPipes;
-use raft_log_records::{EntryIndex, FileBlockHandle, RecordError, RecordFault, read_entries_block};
+use raft_log_records::{EntryIndex, FileBlockHandle, RecordError, RecordFault};
 use std::alloc::Global;
 
 /// A fault in the bytes of a block or a record.
@@ -38,14 +38,6 @@ pub(crate) fn of_record(error: RecordError) -> EngineFault
     }
 }
 
-/// The bytes of an entry in those of its block.
-fn bytes_of(entries: &[u8], place: EntryIndex) -> &[u8]
-    ensures { result.now ≡ entry_bytes entries.now place }
-{
-    let rest = &entries[entries.len().min(place.entry_offset as usize)..];
-    &rest[..rest.len().min(place.entry_len as usize)]
-}
-
 /// Reads the entries of a block, without its checksum, which is checked. It is never refused as
 /// `Corruption`: the block stands whole.
 fn read_block<F: FileSystem>(
@@ -58,13 +50,8 @@ fn read_block<F: FileSystem>(
     ensures read { IfOk result (λ entries. IsReadAs (F.disk files.now) pipes.now handle entries.items) }
     ensures err { IfErr result (λ fault. IsUnread (F.disk files.now) pipes.now (F.meter files.now) handle fault) }
 {
-    let mut bytes = pipes.read_bytes(files, handle)?;
-    let len = match read_entries_block(&bytes) {
-        Ok(entries) => entries.len(),
-        Err(fault) => return Err(corrupt(fault)),
-    };
-    bytes.truncate(len);
-    Ok(bytes)
+    let entries = raft_log_blocks::read_block(files, pipes, handle)?;
+    Ok(entries)
 }
 
 /// A copy of an entry's bytes in those of its block.
@@ -72,12 +59,13 @@ fn copy_in(alloc: Global, entries: &[u8], place: EntryIndex) -> Result<Vec<u8>, 
     ensures copied { IfOk result (λ v. v.items ≡ entry_bytes entries.now place) }
     ensures err { IfErr result (λ fault. fault ≡ Log Memory) }
 {
-    Ok(Vec::from_slice(alloc, bytes_of(entries, place))?)
+    let copy = raft_log_blocks::copy_in(alloc, entries, place)?;
+    Ok(copy)
 }
 
 /// A copy of an entry's bytes, from its block: one that is kept, or one that is read from its file
 /// and kept then.
-#[tactic(auto, using(crate::proofs::EntryReads::entry_read))]
+#[tactic(auto, using(raft_log_blocks::proofs::EntryReads::entry_read))]
 pub(crate) fn copy_of<F: FileSystem>(
     alloc: Global,
     files: &F,

@@ -26,7 +26,7 @@ pub struct Engine<F: FileSystem> {
 
 impl<F: FileSystem> Model for Engine<F> {
     ghost use Rattle.raft_log_engine.specs.Cached.{IsEngine};
-    ghost use Rattle.raft_log_engine.specs.Held.{Parts};
+    ghost use Rattle.raft_log_engine.specs.Parts.{Parts};
     ghost use Rattle.raft_log_memtables.specs.contracts.memtables.MemTables.{the_row};
     ghost use Rattle.std.specs.Coded.{codes};
 

@@ -1,7 +1,7 @@
 //! What a write needs.
 ghost use Rattle.std.specs.Prelude.{◌≡◌, ◌+◌, ◌^◌, ◌<◌, [], false, IfErr, IfOk, IfSome, OnOk, Some};
 ghost use Rattle.std.specs.List.{list_any};
-ghost use Rattle.raft_log_engine.specs.Held.{IsPlace};
+ghost use Rattle.raft_log_blocks.specs.Held.{IsPlace};
 ghost use Rattle.raft_log_engine.specs.Taken.{IsRefusedBatch};
 ghost use Rattle.raft_log_engine.specs.declared.fault.EngineFault.TheVariants.{Log};
 ghost use Rattle.raft_log_files.specs.declared.error.Error.TheVariants.{Memory};

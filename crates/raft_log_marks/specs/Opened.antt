@@ -7,16 +7,15 @@ use Rattle.raft_log_covers.specs.Cells.{Cell, after_batches}
 use Rattle.raft_log_covers.specs.Queues.{Filed, batches_of, FilesRise}
 use Rattle.raft_log_covers.specs.Account.{Account, no_account, account_after_all}
 use Rattle.raft_log_covers.specs.Trace.{Trace}
-use Rattle.raft_log_covers.specs.Kept.{Traces, IsUnmarked, HasEnds, traces_after_all, opened_trace}
+use Rattle.raft_log_covers.specs.Kept.{Traces, IsUnmarked, IsReplayed, traces_after_all}
 use Rattle.raft_log_marks.specs.Cleaning.{IsCleanable}
 
--- After a replay of the append queue over the rewrite queue, whatever files were left over, with the traces that the laws name.
+-- After a replay of the append queue over the rewrite queue, whatever files were left over, with traces that say what the laws ask.
 abbrev pub ReplaysAreCleanable : Type 0 → Type 0
-ReplaysAreCleanable E = (traces : Traces) (ends : ℕ → ℕ × ℕ) (records : List (List (Item E))) (bs : List (Filed E)) (first : ℕ)
+ReplaysAreCleanable E = (traces opened : Traces) (records : List (List (Item E))) (bs : List (Filed E)) (first : ℕ)
     → ((group : ℕ) → IsUnmarked (traces group) (content_of records group)) → FilesRise first bs
-    → ((group : ℕ) → HasEnds (after_batches (batches_of bs) (content_of records) group) (ends group) (traces_after_all bs traces group).top)
-    → IsCleanable (λ group. opened_trace first (ends group) (traces_after_all bs traces group) (account_after_all bs no_account group)) (account_after_all bs no_account)
-    records (after_batches (batches_of bs) (content_of records)) bs
+    → ((group : ℕ) → IsReplayed first (traces_after_all bs traces group) (opened group) (after_batches (batches_of bs) (content_of records) group) (account_after_all bs no_account group))
+    → IsCleanable opened (account_after_all bs no_account) records (after_batches (batches_of bs) (content_of records)) bs
 
 -- the trace of a group of which all stands in the rewrite queue: it keeps no file
 abbrev pub trace_settled : Trace → Trace

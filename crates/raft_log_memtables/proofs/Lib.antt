@@ -7,3 +7,4 @@ pub mod Unbroken
 pub mod Fetching
 pub mod Counting
 pub mod Scanning
+pub mod Moving

@@ -1,6 +1,6 @@
 -- Which entries a batch may add, and the search for entries behind its items.
 use Rattle.std.proofs.Common.{◌≡◌, ◌≤◌, ◌<◌, ◌-◌, ℕ, Bool, true, false, cond, List, [], ◌∷◌, ◌++◌, Option, Some, None, refl, sym, ap, ◌∙◌, arith, max, min, ◌+◌, suc, length, take, drop, get_or, subst}
-use Rattle.std.specs.Prelude.{nat_eq, nat_le, IsSome, IfSome, IfNone, ◌||◌, ◌&&◌}
+use Rattle.std.specs.Prelude.{nat_eq, nat_le, IsSome, IfSome, IfNone, ◌||◌}
 use Rattle.std.specs.Cmp.Derive.{both_true}
 use Rattle.std.specs.List.{list_any}
 use Rattle.std.proofs.lemmas.Bool.{eq-eqb, eqb-true, leb-true, le-leb, and_parts}

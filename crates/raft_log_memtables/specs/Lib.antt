@@ -13,3 +13,4 @@ pub mod ContentLaws
 pub mod Fetch
 pub mod Scan
 pub mod KeyRange
+pub mod Moved

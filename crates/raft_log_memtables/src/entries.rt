@@ -1,7 +1,7 @@
 //! The entries of a group by their indexes.
 
 ghost use Rattle.std.specs.Prelude.{◌≡◌, ◌≤◌, ◌<◌, ◌-◌, ◌∷◌, ℕ, length, drop, None, nat_le};
-ghost use Rattle.std.specs.Prelude.{nat_lt, if◌then◌else◌, OnOk};
+ghost use Rattle.std.specs.Prelude.{nat_lt, if◌then◌else◌, OnOk, Some, nat_eq};
 ghost use Rattle.std.specs.Bool.{OnTrue, OnFalse};
 ghost use Rattle.std.specs.BTreeMap.{btree_map_len};
 ghost use Rattle.raft_log_records.specs.Item.{change_map};
@@ -11,6 +11,7 @@ ghost use Rattle.raft_log_memtables.specs.Entries.{entry_of, placed_in, placed_p
 ghost use Rattle.raft_log_memtables.specs.Entries.{IsLast, HasFrom, NoneFrom, HasBefore};
 ghost use Rattle.raft_log_memtables.specs.Entries.{NoneBefore, or_else};
 ghost use Rattle.raft_log_memtables.specs.Fetch.{count_before};
+ghost use Rattle.raft_log_memtables.specs.Moved.{moved};
 ghost use Rattle.raft_log_memtables.specs.Taken.{within, HasWithin, NoneWithin};
 
 use raft_log_records::{EntryIndex, FileBlockHandle};
@@ -143,6 +144,29 @@ pub fn add_placed(
         }
     }
     Ok(())
+}
+
+/// The entry of this one's index, if it is there, lies where this one does now.
+fn move_entry(entries: &mut EntryMap, entry: EntryIndex)
+    ensures { (i : ℕ) → entry_of entries.new i
+        ≡ (if nat_eq entry.index i then moved (entry_of entries.old i) (Some entry) else entry_of entries.old i) }
+{
+    if let Some(place) = entries.get_mut(&entry.index) {
+        *place = entry;
+    }
+}
+
+/// The entries of these indexes that are there lie in this block now. Where one index comes twice,
+/// the first counts.
+pub fn move_entries(entries: &mut EntryMap, handle: FileBlockHandle, more: &[EntryIndex])
+    ensures { (i : ℕ) → entry_of entries.new i ≡ moved (entry_of entries.old i) (entry_at (placed_pairs handle more.now) i) }
+{
+    let mut at = more.len();
+    while at > 0 {
+        let entry = entry_before(more, at);
+        at -= 1;
+        move_entry(entries, place_in(handle, entry));
+    }
 }
 
 /// The greatest index that entries ever had, with these.

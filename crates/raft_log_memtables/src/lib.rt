@@ -8,6 +8,7 @@ mod keys;
 mod laws;
 mod memtable;
 mod memtables;
+mod moved;
 mod replay;
 mod taken;
 
@@ -17,4 +18,5 @@ pub use laws::{
 };
 pub use memtable::MemTable;
 pub use memtables::MemTables;
+pub use moved::entries_may_move;
 pub use replay::{MemTableRecoverContext, PlacedBatch, replay_all};

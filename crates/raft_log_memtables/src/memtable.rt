@@ -28,7 +28,7 @@ pub struct MemTable {
     pub(crate) entries: EntryMap,
     pub(crate) keys: KeyMap,
     /// The greatest index that entries ever had since the group was last cleaned.
-    reached: Option<u64>,
+    pub(crate) reached: Option<u64>,
 }
 
 /// The index of the first entry.

@@ -27,7 +27,7 @@ use std::alloc::{AllocError, Global};
 use std::collections::BTreeMap;
 
 /// The memtables of all groups.
-type TableMap = BTreeMap<u64, MemTable>;
+pub(crate) type TableMap = BTreeMap<u64, MemTable>;
 
 fn is_mark(content: &LogItemContent) -> bool
     ensures { result ≡ is_mark_of (change_of content.now) }
@@ -139,7 +139,7 @@ fn group_ids(alloc: Global, tables: &TableMap) -> Result<Vec<u64>, AllocError>
 /// item but a `Clean` or an atomic mark until its next `Clean`.
 #[derive(Drop)]
 pub struct MemTables {
-    tables: TableMap,
+    pub(crate) tables: TableMap,
     pub(crate) alloc: Global,
 }
 

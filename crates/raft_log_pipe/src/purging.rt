@@ -45,7 +45,7 @@ impl SinglePipe {
 
     /// Lets the files before a number go, and answers how many went (raft-engine's `purge_to`). A
     /// number that no file has is `Other`, and changes nothing. After another `Err` some of them
-    /// have gone, the first ones.
+    /// have gone, the first ones, and none of the others.
     pub fn purge_to<F: FileSystem>(&mut self, files: &mut F, seq: FileSeq) -> Result<u64, Error>
         requires pipe { IsPipe self.old (F.disk files.old) }
         ensures pipe { IsPipe self.new (F.disk files.new) }
@@ -53,6 +53,7 @@ impl SinglePipe {
         ensures ok { IfOk result (λ n. (first_of self.new ≡ seq) × (first_of self.old + n ≡ seq)) }
         ensures out { IsOutOfSpan self.old seq → IsErrOf result (Other NumberOutOfSpan) × (self.new ≡ self.old) × (F.disk files.new ≡ F.disk files.old) }
         ensures within { IsErrOf result (Other NumberOutOfSpan) → IsOutOfSpan self.old seq }
+        ensures bound { (first_of self.old ≤ first_of self.new) × (first_of self.old ≤ seq → first_of self.new ≤ seq) }
         ensures gone { OnOk result (AreGone self.old self.new (F.disk files.new)) }
         ensures holds { HoldsRest self.old (F.disk files.old) self.new (F.disk files.new) }
         ensures keeps { KeepsFrom self.old.queue (first_of self.new) (F.disk files.old) (F.disk files.new) }

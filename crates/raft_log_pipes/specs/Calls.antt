@@ -1,5 +1,5 @@
 -- What a call on one of two pipes makes of that pipe: what the same call on a single pipe does.
-use Rattle.std.specs.Prelude.{◌≡◌, ℕ, ◌+◌, ◌^◌, ◌<◌, ◌∷◌, [], ◌++◌, Result, IfOk, IfErr, OnOk, OnErr, IsErr, IsErrOf, Vec}
+use Rattle.std.specs.Prelude.{◌≡◌, ℕ, ◌+◌, ◌^◌, ◌<◌, ◌≤◌, ◌∷◌, [], ◌++◌, Result, IfOk, IfErr, OnOk, OnErr, IsErr, IsErrOf, Vec}
 use Rattle.std.specs.declared.alloc.Global.{Global}
 use Rattle.raft_log_records.specs.declared.file_id.FileBlockHandle.{FileBlockHandle}
 use Rattle.raft_log_records.specs.Spelling.{record_len}
@@ -73,6 +73,7 @@ pub record IsPurgeOf (old : SinglePipe) (d : Disk) (new : SinglePipe) (e : Disk)
   pub ok : IfOk result (λ n. (first_of new ≡ seq) × (first_of old + n ≡ seq))
   pub out : IsOutOfSpan old seq → IsErrOf result (Other NumberOutOfSpan) × (new ≡ old) × (e ≡ d)
   pub within : IsErrOf result (Other NumberOutOfSpan) → IsOutOfSpan old seq
+  pub bound : (first_of old ≤ first_of new) × (first_of old ≤ seq → first_of new ≤ seq)
   pub gone : OnOk result (AreGone old new e)
   pub holds : HoldsRest old d new e
   pub keeps : KeepsFrom old.queue (first_of new) d e

@@ -6,3 +6,4 @@ pub mod Going
 pub mod Marking
 pub mod Steps
 pub mod StepLaws
+pub mod Listeners

@@ -3,6 +3,8 @@ pub mod KeyLemmas
 pub mod AlikeLemmas
 pub mod EnterLemmas
 pub mod TableLemmas
+pub mod BeginLemmas
 pub mod FileLemmas
 pub mod NameLemmas
 pub mod LawLemmas
+pub mod OpenedLemmas

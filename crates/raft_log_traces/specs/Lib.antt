@@ -5,3 +5,4 @@ pub mod GroupTraces
 pub mod Files
 pub mod Before
 pub mod TraceLaws
+pub mod Opened

@@ -1,5 +1,5 @@
 -- The append files of entries, as runs of entries in one file.
-use Rattle.std.specs.Prelude.{◌≡◌, ◌≤◌, ◌<◌, ℕ, if◌then◌else◌, nat_le, nat_lt, List, [], ◌∷◌, ◌++◌, length, Option, Some, None}
+use Rattle.std.specs.Prelude.{◌≡◌, ◌≤◌, ◌<◌, ℕ, if◌then◌else◌, nat_le, nat_lt, List, [], ◌∷◌, ◌++◌, length, Option, Some, None, IsSome}
 use Rattle.raft_log_traces.specs.declared.runs.Run.{Run}
 use Rattle.raft_log_memtables.specs.Entries.{or_else}
 
@@ -27,3 +27,9 @@ SecondBy floor runs = (r : Run) × (second : Run) × (more : List Run) × (runs 
 -- there is no second run, or it begins behind the index
 abbrev pub NoSecondBy : ℕ → List Run → Type 0
 NoSecondBy floor runs = (r second : Run) (more : List Run) → runs ≡ r ∷ (second ∷ more) → floor < second.first
+
+-- below an index none has a file, and from it on up to before another one each has
+pub record BeginAt (begin next : ℕ) (runs : List Run) : Type 0 where
+  pub below : (i : ℕ) → i < begin → file_in runs i ≡ None
+  pub above : (i : ℕ) → begin ≤ i → i < next → IsSome (file_in runs i)
+  pub within : begin ≤ next

@@ -1,14 +1,15 @@
 //! What of a group lies before an append file, and what was removed from it.
 
-ghost use Rattle.std.specs.Prelude.{◌≡◌, ◌<◌, ◌≤◌, ℕ, List, map, true, None, IfSome, IfNone, IfOk};
+ghost use Rattle.std.specs.Prelude.{◌≡◌, ◌<◌, ◌≤◌, ℕ, List, map, true, None, IsSome};
+ghost use Rattle.std.specs.Prelude.{IfSome, IfNone, IfOk};
 ghost use Rattle.std.specs.Prelude.{MatchOption};
 ghost use Rattle.raft_log_covers.specs.Account.{IsFrom};
 ghost use Rattle.raft_log_covers.specs.Marks.{is_in};
-ghost use Rattle.raft_log_traces.specs.Runs.{file_in};
+ghost use Rattle.raft_log_traces.specs.Runs.{file_in, BeginAt};
 ghost use Rattle.raft_log_traces.specs.Before.{StandsFrom, IsBefore};
 ghost use Rattle.raft_log_traces.specs.Traces.{trace_of, trace_in, key_file_in, names_in};
 
-use crate::group_trace::{GroupTrace, earlier};
+use crate::group_trace::{GroupTrace, earlier, later};
 use crate::runs::Run;
 use raft_log_records::FileSeq;
 use std::alloc::{AllocError, Global};
@@ -36,6 +37,17 @@ fn first_from(runs: &[Run], file: FileSeq) -> Option<u128>
         first = first_with(first, *run, file);
     }
     first
+}
+
+/// The index from which on entries stand in runs, if any up to before another one do.
+fn begin_of(runs: &[Run], next: u128) -> u128
+    ensures { BeginAt result next runs.now }
+{
+    let mut begin = next;
+    for run in runs {
+        begin = earlier(run.first, begin);
+    }
+    begin
 }
 
 /// The names in a set.
@@ -103,13 +115,18 @@ impl GroupTrace {
     }
 
     /// One past the entries of which none stands in an append file, as far as there are entries:
-    /// those before it stand in the rewrite queue.
-    #[tactic(auto, unfolding(crate::specs::Traces::trace_in))]
+    /// those before it stand in the rewrite queue, and no other one does.
+    #[tactic(auto, unfolding(crate::specs::Traces::trace_in), using(crate::proofs::BeginLemmas::end_below, crate::proofs::BeginLemmas::end_above, crate::proofs::BeginLemmas::end_within))]
     pub fn rewritten_end(&self) -> u128
         ensures below { (i : ℕ) → i < result → (trace_in self.now).entry_file i ≡ None }
+        ensures above { (i : ℕ) → result ≤ i → i < (trace_in self.now).next → IsSome ((trace_in self.now).entry_file i) }
         ensures within { result ≤ (trace_in self.now).next }
     {
-        earlier(self.floor, self.next)
+        if self.floor < self.next {
+            later(self.floor, begin_of(&self.runs, self.next))
+        } else {
+            self.next
+        }
     }
 
     /// The append file in which a key stands. None: it stands in the rewrite queue, or isn't there.

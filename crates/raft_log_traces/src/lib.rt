@@ -7,6 +7,7 @@ mod files;
 mod group_trace;
 mod group_traces;
 mod laws;
+mod opened;
 mod rewritten;
 mod runs;
 

@@ -3,7 +3,7 @@ use Rattle.std.proofs.Common.{◌≡◌, ◌≤◌, ◌+◌, map, take}
 use Rattle.std.specs.Prelude.{Contains}
 use Rattle.raft_log_records.specs.Batch.{payloads}
 use Rattle.raft_log_engine.specs.Cached.{KeepsMore}
-use Rattle.raft_log_engine.specs.Held.{bytes_on}
+use Rattle.raft_log_blocks.specs.Placed.{bytes_on}
 use Rattle.raft_log_engine.proofs.blocks.copies_of.Given as goal
 
 abbrev pub invariant-loop-place : goal.invariant-loop-place

@@ -6,7 +6,7 @@ use Rattle.raft_log_engine.specs.Left.{answers_on}
 use Rattle.raft_log_engine.proofs.Clauses.{kept_by, parts}
 use Rattle.raft_log_engine.proofs.Reopened.{all_closed, both_closed, closed_opens, first_closed}
 use Rattle.raft_log_engine.proofs.Since.{closed_front, written_opens}
-use Rattle.raft_log_engine.proofs.Tables.{answered, held_answered}
+use Rattle.raft_log_blocks.proofs.HeldLemmas.{answered, held_answered}
 use Rattle.raft_log_engine.proofs.Tails.{both_in_tail, first_in_tail}
 use Rattle.raft_log_disk.specs.Cause.{Rises}
 use Rattle.raft_log_pipe.proofs.CausedLemmas.{caused_for, rises_then}

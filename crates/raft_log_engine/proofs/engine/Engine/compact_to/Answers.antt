@@ -2,7 +2,7 @@ use Rattle.std.proofs.Common.{ℕ, [], ◌∷◌, ◌++◌, refl, sym, subst, �
 use Rattle.std.proofs.lemmas.Bool.{false≢true}
 use Rattle.raft_log_disk.proofs.CauseLemmas.{at_err}
 use Rattle.raft_log_memtables.specs.MemTables.{content_in}
-use Rattle.raft_log_engine.specs.Held.{bytes_on}
+use Rattle.raft_log_blocks.specs.Placed.{bytes_on}
 use Rattle.raft_content_log.specs.Leaving.{LeavesElsewhere}
 use Rattle.raft_log_engine.specs.Left.{answers_on, leaves_on}
 use Rattle.raft_log_memtables.specs.Content.{after_batch}

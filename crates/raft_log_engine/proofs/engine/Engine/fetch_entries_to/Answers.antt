@@ -1,12 +1,12 @@
 use Rattle.std.proofs.Common.{subst}
 use Rattle.std.specs.Prelude.{Contains}
 use Rattle.raft_log_memtables.specs.MemTables.{content_in}
-use Rattle.raft_log_engine.specs.Held.{bytes_on}
+use Rattle.raft_log_blocks.specs.Placed.{bytes_on}
 use Rattle.raft_log_engine.proofs.Fetched.{copied, copied_count, fetched_there, has_read}
 use Rattle.raft_log_engine.proofs.Settled.{blocks_more, blocks_read}
 use Rattle.raft_log_engine.proofs.Tables.{measured}
 use Rattle.raft_log_engine.proofs.Clauses.{parts}
-use Rattle.raft_log_engine.proofs.Whole.{has_block}
+use Rattle.raft_log_blocks.proofs.Whole.{has_block}
 use Rattle.raft_log_engine.proofs.Caused.{copies_fault, range_fault}
 use Rattle.raft_log_engine.proofs.engine.Engine.fetch_entries_to.Goals as goal
 

@@ -2,14 +2,14 @@
 use Rattle.std.proofs.Common.{◌≡◌, List, ℕ, Some, sym, ap, ◌∙◌}
 use Rattle.std.specs.Option.{option_map}
 use Rattle.raft_log_records.specs.declared.item.EntryIndex.{EntryIndex}
-use Rattle.raft_log_engine.specs.Held.{bytes_on}
+use Rattle.raft_log_blocks.specs.Placed.{bytes_on}
 use Rattle.raft_log_engine.proofs.Settled.{blocks_more, blocks_read}
 use Rattle.std.proofs.Common.{inr}
 use Rattle.raft_log_memtables.specs.MemTables.{content_in}
 use Rattle.raft_log_engine.specs.Caused.{IsGetFault}
 use Rattle.raft_log_engine.specs.declared.fault.EngineFault.{EngineFault}
 use Rattle.raft_log_engine.proofs.Clauses.{parts}
-use Rattle.raft_log_engine.proofs.Whole.{has_block}
+use Rattle.raft_log_blocks.proofs.Whole.{has_block}
 use Rattle.raft_log_pipe.proofs.CausedLemmas.{told_cause}
 use Rattle.raft_log_engine.proofs.engine.Engine.get_entry.Goals as goal
 

@@ -1,5 +1,5 @@
 use Rattle.raft_log_memtables.specs.MemTables.{content_in}
-use Rattle.raft_log_engine.specs.Held.{bytes_on}
+use Rattle.raft_log_blocks.specs.Placed.{bytes_on}
 use Rattle.raft_log_engine.proofs.Seen.{empty_seen}
 use Rattle.raft_log_engine.proofs.engine.Engine.is_empty.Goals as goal
 

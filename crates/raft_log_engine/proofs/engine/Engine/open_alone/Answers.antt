@@ -7,7 +7,7 @@ use Rattle.raft_log_engine.proofs.Clauses.{parts}
 use Rattle.raft_log_engine.proofs.Fresh.{found_nothing}
 use Rattle.raft_log_engine.proofs.Reopened.{kept_opens}
 use Rattle.raft_log_engine.proofs.Since.{nothing_since}
-use Rattle.raft_log_engine.proofs.Tables.{answered, kept_held}
+use Rattle.raft_log_blocks.proofs.HeldLemmas.{answered, kept_held}
 use Rattle.raft_log_engine.proofs.Tails.{held_in_tail}
 use Rattle.raft_log_engine.proofs.engine.Engine.open_alone.Goals as goal
 

@@ -9,7 +9,7 @@ use Rattle.raft_log_engine.proofs.Clauses.{parts}
 use Rattle.raft_log_engine.proofs.Reopened.{kept_opens, synced_stands}
 use Rattle.raft_log_engine.proofs.Settled.{settled_still}
 use Rattle.raft_log_engine.proofs.Since.{nothing_since, synced_written, unsynced_written, written_opens}
-use Rattle.raft_log_engine.proofs.Tables.{answered, held_answered, kept_held, synced_kept}
+use Rattle.raft_log_blocks.proofs.HeldLemmas.{answered, held_answered, kept_held, synced_kept}
 use Rattle.raft_log_engine.proofs.Tails.{held_in_tail, written_in_tail}
 use Rattle.raft_log_engine.proofs.Taken.{failed_sync}
 use Rattle.raft_log_engine.proofs.engine.Engine.sync.Goals as goal

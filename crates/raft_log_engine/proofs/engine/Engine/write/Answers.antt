@@ -8,7 +8,7 @@ use Rattle.raft_log_disk.proofs.CauseLemmas.{at_err}
 use Rattle.raft_log_pipe.proofs.AloneLemmas.{nearly}
 use Rattle.raft_log_recovery.proofs.LengthLemmas.{placed_lengths}
 use Rattle.raft_log_memtables.specs.Content.{after_batch}
-use Rattle.raft_log_engine.specs.Held.{seen_on}
+use Rattle.raft_log_blocks.specs.Held.{seen_on}
 use Rattle.raft_log_engine.specs.Left.{answers_on}
 use Rattle.raft_log_engine.specs.Since.{HasWritten}
 use Rattle.raft_log_engine.proofs.Clauses.{HeldBy, agrees, done_blocks, done_from, done_kept, done_seen, done_written, failed, kept_by, others, parts, put_leaves, refused}
@@ -16,7 +16,7 @@ use Rattle.raft_log_engine.proofs.Reopened.{done_opens, failed_opens, refused_op
 use Rattle.raft_log_engine.proofs.Since.{failed_front, more_opens, more_written, no_batch, nothing_since, one_batch, refused_front, written_opens}
 use Rattle.raft_log_engine.specs.Reopened.{directories_of_engine}
 use Rattle.raft_log_engine.proofs.Synced.{either_opens, synced_agrees, synced_others, synced_refused, synced_written}
-use Rattle.raft_log_engine.proofs.Tables.{answered}
+use Rattle.raft_log_blocks.proofs.HeldLemmas.{answered}
 use Rattle.raft_log_engine.proofs.Tails.{held_in_tail, left_in_tail, more_in_tail, stands_in_tail}
 use Rattle.raft_log_engine.proofs.Taken.{block_fits, done_write, failed_write, refused_write, stopped_write, synced_write, unapplied_write}
 use Rattle.raft_log_engine.proofs.Caused.{failed_cause, refused_cause, stopped_cause, synced_cause, unapplied_cause}

@@ -4,7 +4,7 @@ use Rattle.raft_log_disk.specs.Disk.{Disk}
 use Rattle.raft_log_disk.specs.declared.memory.MemoryFileSystem.{MemoryFileSystem}
 use Rattle.raft_log_disk.specs.Image.{Image, image_of}
 use Rattle.raft_log_disk.specs.MemorySystem.{disk_in}
-use Rattle.raft_log_engine.specs.Held.{Parts}
+use Rattle.raft_log_engine.specs.Parts.{Parts}
 use Rattle.raft_log_engine.proofs.Crashes.{found_crashed, leaves_crashed, log_crashed, log_on}
 use Rattle.raft_log_engine.proofs.memory.MemoryLog.crash_files.Goals as goal
 

@@ -2,7 +2,7 @@
 use Rattle.std.proofs.Common.{ap}
 use Rattle.raft_log_disk.specs.declared.memory.MemoryFileSystem.{MemoryFileSystem}
 use Rattle.raft_log_disk.specs.MemorySystem.{disk_in}
-use Rattle.raft_log_engine.specs.Held.{Parts}
+use Rattle.raft_log_engine.specs.Parts.{Parts}
 use Rattle.raft_log_engine.proofs.Crashes.{log_on}
 use Rattle.raft_log_engine.proofs.memory.MemoryLog.fuse_files.Goals as goal
 

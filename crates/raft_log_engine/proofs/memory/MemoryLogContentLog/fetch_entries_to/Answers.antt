@@ -4,7 +4,7 @@ use Rattle.std.proofs.lemmas.List.{length-map}
 use Rattle.raft_log_disk.specs.declared.memory.MemoryFileSystem.{MemoryFileSystem}
 use Rattle.raft_log_disk.specs.MemorySystem.{disk_in}
 use Rattle.raft_log_records.specs.Batch.{payloads}
-use Rattle.raft_log_engine.specs.Held.{Parts}
+use Rattle.raft_log_engine.specs.Parts.{Parts}
 use Rattle.raft_log_engine.specs.Left.{answers_on}
 use Rattle.raft_log_engine.proofs.Crashes.{log_on}
 use Rattle.raft_log_engine.proofs.Fetched.{all_read}

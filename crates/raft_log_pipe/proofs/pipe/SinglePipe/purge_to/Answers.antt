@@ -6,7 +6,7 @@ use Rattle.raft_log_disk.proofs.RefusalLemmas.{no_more_same, no_more_then, still
 use Rattle.raft_log_pipe.specs.Taken.{HasLost}
 use Rattle.raft_log_pipe.proofs.LostLemmas.{alone_purge, lost_more}
 use Rattle.raft_log_pipe.proofs.TakenLemmas.{exit_error, taken_for}
-use Rattle.raft_log_pipe.proofs.PurgeLemmas.{first_more, first_or_more, goes_on, gone_on, holds_all, in_files, none_gone, rest_on, same_keeps}
+use Rattle.raft_log_pipe.proofs.PurgeLemmas.{first_more, first_or_more, first_or_next, goes_on, gone_on, holds_all, in_files, none_gone, rest_on, same_keeps}
 use Rattle.raft_log_disk.specs.Cause.{Rises}
 use Rattle.raft_log_files.specs.declared.error.Error.{Error}
 use Rattle.raft_log_pipe.specs.Caused.{IsPurgeFault}
@@ -106,3 +106,13 @@ returns-in_err-purge_first-clause-cause g c =
 pub returns-in_err-purge_first-clause-found : goal.returns-in_err-purge_first-clause-found
 returns-in_err-purge_first-clause-found g c =
     purge_found c.args.self.now (g.F.FileSystem.disk c.args.files.now) c.args.seq (g.F.FileSystem.meter c.args.files.now) (g.F.FileSystem.meter c.purge_first.new.files) c.from_residual.result (returns-in_err-purge_first-clause-cause g c)
+
+pub returns-in_err-purge_first-clause-bound : goal.returns-in_err-purge_first-clause-bound
+returns-in_err-purge_first-clause-bound g c =
+    let q = c.loop-gone.self in
+    let r = c.purge_first.new.self in
+    let e = g.F.FileSystem.disk c.loop-gone.files in
+    let low = first_or_more q r e c.loop-gone.invariant.pipe c.in_err-purge_first.ensures.same.0 c.in_err-purge_first.ensures.err in
+    let high = first_or_next q r e c.loop-gone.invariant.pipe c.in_err-purge_first.ensures.same.0 c.in_err-purge_first.ensures.err in
+    let next : first_of q + 1 ≤ c.args.seq = omega (arith, c.loop-gone.invariant.count, c.file_span-first.ensures.first, c.in-Some.ensures.found.1) in
+    (omega (arith, c.loop-gone.invariant.count, low), λ h. omega (arith, high, next))

@@ -1,5 +1,5 @@
--- What an engine holds: batches in files of both queues, and tables of where their entries lie.
-use Rattle.std.specs.Prelude.{◌≡◌, ◌⊎◌, ℕ, ◌+◌, ◌-◌, Bool, true, false, List, [], ◌∷◌, ◌++◌, length, map, take, drop, Option, Some, None, ◌==◌, if◌then◌else◌}
+-- Batches in files of both queues, and tables of where their entries lie.
+use Rattle.std.specs.Prelude.{◌≡◌, ◌⊎◌, ℕ, ◌+◌, Bool, true, false, List, [], ◌∷◌, ◌++◌, length, map, take, drop, Some, None}
 use Rattle.raft_log_records.specs.declared.block.EntriesBlock.{EntriesBlock}
 use Rattle.raft_log_records.specs.declared.file_id.FileBlockHandle.{FileBlockHandle}
 use Rattle.raft_log_records.specs.declared.item.EntryIndex.{EntryIndex}
@@ -12,53 +12,19 @@ use Rattle.raft_log_pipe.specs.declared.pipe.SinglePipe.{SinglePipe}
 use Rattle.raft_log_pipe.specs.Blocks.{IsBlockOf, files_of, record_in}
 use Rattle.raft_log_pipe.specs.Pipe.{Numbered, Holds}
 use Rattle.raft_log_pipes.specs.declared.pipes.DualPipes.{DualPipes}
-use Rattle.raft_log_pipes.specs.Pipes.{ArePipes, pipe_of}
+use Rattle.raft_log_pipes.specs.Pipes.{ArePipes}
 use Rattle.raft_log_memtables.specs.declared.memtables.MemTables.{MemTables}
 use Rattle.raft_log_memtables.specs.Content.{Content}
 use Rattle.raft_log_memtables.specs.ContentLaws.{content_map}
 use Rattle.raft_log_memtables.specs.MemTables.{content_in}
 use Rattle.raft_log_memtables.specs.Replay.{content_of}
-
--- what contracts see of an engine
-pub record Parts (F : Type 0) : Type 0 where
-  pub files : F
-  pub pipes : DualPipes
-  pub tables : MemTables
-  -- a write failed, and nothing more is answered
-  pub is_stopped : Bool
-  -- a write wasn't synced
-  pub wrote_unsynced : Bool
-  -- so many blocks were read from files for entries
-  pub block_reads : ℕ
+use Rattle.raft_log_blocks.specs.Placed.{bytes_on}
 
 -- the content of batches, in their order
 abbrev pub content_of_batches : Numbered → Content (List ℕ)
 content_of_batches bs = content_of (map (λ b. b.1) bs)
 
--- ---- what calls answer: the tables, with the bytes of entries as they stand on the disk
-
--- the file of a number
-abbrev pub file_in : ℕ → List File → Option File
-file_in seq [] = None
-file_in seq (f ∷ fs) = if f.seq == seq then Some f else file_in seq fs
-
--- bytes without the checksum at their end
-abbrev pub unsealed_bytes : List ℕ → List ℕ
-unsealed_bytes bytes = take (length bytes - 4) bytes
-
--- a block of entries in its file, none where there is no file
-abbrev pub block_in : Disk → FileBlockHandle → Option File → List ℕ
-block_in d h None = []
-block_in d h (Some f) = unsealed_bytes (take h.len (drop h.offset (d.file f.handle.0).bytes))
-
-abbrev pub bytes_placed : Disk → DualPipes → EntryIndex → Option FileBlockHandle → List ℕ
-bytes_placed d p e None = []
-bytes_placed d p e (Some h) = entry_bytes (block_in d h (file_in h.id.seq (files_of (pipe_of p h.id.queue)))) e
-
--- the bytes of an entry on the disk, in the queue that its block says
-abbrev pub bytes_on : Disk → DualPipes → EntryIndex → List ℕ
-bytes_on d p e = bytes_placed d p e e.entries
-
+-- what calls answer: the tables, with the bytes of entries as they stand on the disk
 abbrev pub seen_on : Disk → DualPipes → MemTables → Content (List ℕ)
 seen_on d p tables = content_map (bytes_on d p) (content_in tables)
 
@@ -127,3 +93,10 @@ pub record HoldsMore (p : SinglePipe) (d : Disk) (all : Bool) (synced unsynced :
   pub count : ℕ
   pub holds : Holds p d (synced ++ take count unsynced) (drop count unsynced)
   pub none : all ≡ true → drop count unsynced ≡ []
+
+-- ---- blocks of batches
+
+-- Each block of a batch of either queue is read as it was written
+pub record ReadsBlocks (p : DualPipes) (rewrites appends : Numbered) (read : FileBlockHandle → List ℕ) : Type 0 where
+  pub rewrite : (e : EntryIndex) (bytes : List ℕ) → (lies : LiesIn p.rewrite rewrites e bytes) → read lies.handle ≡ block_of lies.items
+  pub append : (e : EntryIndex) (bytes : List ℕ) → (lies : LiesIn p.append appends e bytes) → read lies.handle ≡ block_of lies.items

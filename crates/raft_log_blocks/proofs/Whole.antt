@@ -26,13 +26,12 @@ use Rattle.raft_log_pipes.specs.Pipes.{ArePipes, pipe_of}
 use Rattle.raft_log_memtables.specs.declared.memtables.MemTables.{MemTables}
 use Rattle.raft_log_memtables.specs.ContentLaws.{content_map}
 use Rattle.raft_log_memtables.specs.MemTables.{content_in}
-use Rattle.raft_log_engine.specs.Blocks.{HasBlock, StandsWhole}
-use Rattle.raft_log_engine.specs.Caused.{IsUnread}
-use Rattle.raft_log_engine.specs.Held.{IsHeld, LiesIn, ReadsEntries, bytes_on, file_in, unsealed_bytes}
-use Rattle.raft_log_engine.specs.declared.fault.EngineFault.TheVariants.{Log}
-use Rattle.raft_log_engine.proofs.EntryReads.{IsFound, disk_reads, found, lies_sealed, pipe_there, unsealed_is}
-use Rattle.raft_log_engine.proofs.Settled.{not_longer, some_same}
-use Rattle.raft_log_engine.proofs.Tables.{held_answered}
+use Rattle.raft_log_blocks.specs.Blocks.{HasBlock, StandsWhole}
+use Rattle.raft_log_blocks.specs.Unread.{IsUnread}
+use Rattle.raft_log_blocks.specs.Held.{IsHeld, LiesIn, ReadsEntries}
+use Rattle.raft_log_blocks.specs.Placed.{bytes_on, file_in, unsealed_bytes}
+use Rattle.raft_log_blocks.proofs.EntryReads.{IsFound, disk_reads, found, lies_sealed, pipe_there, unsealed_is}
+use Rattle.raft_log_blocks.proofs.HeldLemmas.{held_answered, not_longer, some_same}
 
 -- ---- files of a pipe
 
@@ -162,7 +161,7 @@ has_block d p tables r s u held group index e there =
 
 -- ---- why such a block isn't read
 
-pub whole_unread : (d : Disk) (p : DualPipes) (m : Meter) (h : FileBlockHandle) → ArePipes p d → StandsWhole d p h → (x : Error) → IsBlockFault (pipe_of p h.id.queue) d m h x → IsUnread d p m h (Log x)
+pub whole_unread : (d : Disk) (p : DualPipes) (m : Meter) (h : FileBlockHandle) → ArePipes p d → StandsWhole d p h → (x : Error) → IsBlockFault (pipe_of p h.id.queue) d m h x → IsUnread d p m h x
 whole_unread d p m h pipes whole x (inl (out, is)) =
     absurd (file_within (pipe_of p h.id.queue) d whole.file (pipe_there p d pipes h.id.queue) whole.among (subst (IsOutOfSpan (pipe_of p h.id.queue)) (sym whole.number) out))
 whole_unread d p m h pipes whole x (inr (f, among, number, why)) = by_cause why
@@ -170,9 +169,9 @@ whole_unread d p m h pipes whole x (inr (f, among, number, why)) = by_cause why
     same : whole.file ≡ f
     same = one_file (pipe_of p h.id.queue) d whole.file f (pipe_there p d pipes h.id.queue) whole.among among (whole.number ∙ sym number)
 
-    by_cause : IsReadFault d m f.handle.0 x → IsUnread d p m h (Log x)
-    by_cause (inl memory) = inl (ap Log memory)
-    by_cause (inr (inl (is, refuses))) = inr (ap Log is, (f, among, number, refuses))
+    by_cause : IsReadFault d m f.handle.0 x → IsUnread d p m h x
+    by_cause (inl memory) = inl memory
+    by_cause (inr (inl (is, refuses))) = inr (is, (f, among, number, refuses))
     by_cause (inr (inr (is, gone))) = absurd (whole.there (subst (λ (y : File). IsNoFile d y.handle.0) (sym same) gone))
 
 -- the bytes that are read are the block

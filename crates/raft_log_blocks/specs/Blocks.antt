@@ -1,4 +1,4 @@
--- Blocks of entries that were read.
+-- Blocks of entries that are read.
 use Rattle.std.specs.Prelude.{◌≡◌, ℕ, List, take, drop, Some, None}
 use Rattle.raft_log_records.specs.declared.file_id.FileBlockHandle.{FileBlockHandle}
 use Rattle.raft_log_records.specs.declared.item.EntryIndex.{EntryIndex}
@@ -8,7 +8,7 @@ use Rattle.raft_log_pipe.specs.declared.file.File.{File}
 use Rattle.raft_log_pipe.specs.Blocks.{files_of}
 use Rattle.raft_log_pipes.specs.declared.pipes.DualPipes.{DualPipes}
 use Rattle.raft_log_pipes.specs.Pipes.{pipe_of}
-use Rattle.raft_log_engine.specs.Held.{block_in, file_in}
+use Rattle.raft_log_blocks.specs.Placed.{block_in, file_in}
 
 -- a block without its checksum, as its file has it
 abbrev pub block_on : Disk → DualPipes → FileBlockHandle → List ℕ

@@ -21,9 +21,10 @@ use Rattle.raft_log_pipe.proofs.BlockLemmas.{blocks_are, one_file}
 use Rattle.raft_log_pipe.proofs.NextLemmas.{consecutive_push}
 use Rattle.raft_log_pipes.specs.declared.pipes.DualPipes.{DualPipes}
 use Rattle.raft_log_pipes.specs.Pipes.{ArePipes, pipe_of}
-use Rattle.raft_log_engine.specs.Blocks.{block_on}
-use Rattle.raft_log_engine.specs.Cached.{ReadsBlocks}
-use Rattle.raft_log_engine.specs.Held.{LiesIn, ReadsEntries, block_in, bytes_on, bytes_placed, file_in, unsealed_bytes}
+use Rattle.raft_log_blocks.specs.Blocks.{block_on}
+use Rattle.raft_log_blocks.specs.Held.{ReadsBlocks}
+use Rattle.raft_log_blocks.specs.Held.{LiesIn, ReadsEntries}
+use Rattle.raft_log_blocks.specs.Placed.{block_in, bytes_on, bytes_placed, file_in, unsealed_bytes}
 
 -- ---- the file of a number
 

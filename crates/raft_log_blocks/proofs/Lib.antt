@@ -1,0 +1,3 @@
+pub mod EntryReads
+pub mod HeldLemmas
+pub mod Whole

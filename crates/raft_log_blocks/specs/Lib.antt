@@ -1,0 +1,4 @@
+pub mod Placed
+pub mod Blocks
+pub mod Unread
+pub mod Held

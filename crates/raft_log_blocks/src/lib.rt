@@ -1,0 +1,6 @@
+//! Reads of entries by the handles of their blocks, out of either queue of log files.
+#![tactic(auto)]
+
+mod blocks;
+
+pub use blocks::{copy_in, read_block, read_placed_entry};

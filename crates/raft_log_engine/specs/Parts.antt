@@ -1,0 +1,15 @@
+-- What contracts see of an engine.
+use Rattle.std.specs.Prelude.{ℕ, Bool}
+use Rattle.raft_log_pipes.specs.declared.pipes.DualPipes.{DualPipes}
+use Rattle.raft_log_memtables.specs.declared.memtables.MemTables.{MemTables}
+
+pub record Parts (F : Type 0) : Type 0 where
+  pub files : F
+  pub pipes : DualPipes
+  pub tables : MemTables
+  -- a write failed, and nothing more is answered
+  pub is_stopped : Bool
+  -- a write wasn't synced
+  pub wrote_unsynced : Bool
+  -- so many blocks were read from files for entries
+  pub block_reads : ℕ

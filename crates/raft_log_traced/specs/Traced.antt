@@ -1,0 +1,40 @@
+-- Memtables with traces, of the batches that an opening finds.
+use Rattle.std.specs.Prelude.{ℕ, List, [], ◌∷◌, Option, Some, None}
+use Rattle.raft_log_records.specs.declared.item.EntryIndex.{EntryIndex}
+use Rattle.raft_log_records.specs.declared.file_id.FileBlockHandle.{FileBlockHandle}
+use Rattle.raft_log_records.specs.declared.file_id.LogQueue.{LogQueue}
+use Rattle.raft_log_records.specs.declared.file_id.LogQueue.TheVariants.{Append, Rewrite}
+use Rattle.raft_log_records.specs.Item.{Item}
+use Rattle.raft_log_covers.specs.Kept.{Traces, new_trace, traces_after}
+use Rattle.raft_log_recovery.specs.Replay.{Placed}
+use Rattle.raft_log_replay.specs.Batches.{HasReplayed}
+use Rattle.raft_log_traces.specs.Alike.{AreAlike}
+use Rattle.raft_log_traces.specs.GroupTraces.{traces_in}
+use Rattle.raft_log_traced.specs.declared.traced.TracedReplay.{TracedReplay}
+
+-- batches of the append queue count for traces, in their files
+abbrev pub traces_with : LogQueue → ℕ → List (Item EntryIndex) → Traces → Traces
+traces_with Append file items traces = traces_after file items traces
+traces_with Rewrite file items traces = traces
+
+abbrev pub traces_over : List Placed → Traces → Traces
+traces_over [] traces = traces
+traces_over (p ∷ ps) traces = traces_over ps (traces_with p.handle.id.queue p.handle.id.seq p.items traces)
+
+-- the tables have replayed just these batches, and the traces have those of the append queue
+pub record IsReplayedTraced (machine : TracedReplay) (placed : List Placed) : Type 0 where
+  pub tables : HasReplayed machine.replayed placed
+  pub traces : AreAlike (traces_over placed (λ group. new_trace)) (traces_in machine.traces)
+
+-- the append file that the place of an entry says. None: it lies in the rewrite queue, or nowhere
+abbrev pub file_on : LogQueue → ℕ → Option ℕ
+file_on Append seq = Some seq
+file_on Rewrite seq = None
+
+abbrev pub file_by : Option FileBlockHandle → Option ℕ
+file_by None = None
+file_by (Some handle) = file_on handle.id.queue handle.id.seq
+
+abbrev pub file_at : Option EntryIndex → Option ℕ
+file_at None = None
+file_at (Some e) = file_by e.entries

@@ -1,0 +1,8 @@
+//! Memtables with what is kept of each group for cleaning: over writes, as cleaning writes groups anew,
+//! and as an opening makes them.
+#![tactic(auto)]
+
+mod places;
+mod traced;
+
+pub use traced::{TracedReplay, TracedTables};
