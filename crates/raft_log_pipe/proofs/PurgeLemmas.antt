@@ -369,7 +369,6 @@ pub first_or_more : (q r : SinglePipe) (e : Disk) → IsPipe q e → r.active �
 first_or_more q r e pipe same (inl fewer) = omega (arith, fewer, ap (λ (f : File). f.seq) same, long_span q.older.items q.active.seq pipe.numbers)
 first_or_more q r e pipe same (inr as_many) = omega (arith, as_many, ap (λ (f : File). f.seq) same)
 
-
 -- at most one file more has gone
 pub first_or_next : (q r : SinglePipe) (e : Disk) → IsPipe q e → r.active ≡ q.active → (length r.older.items + 1 ≡ length q.older.items) ⊎ (length r.older.items ≡ length q.older.items) → first_of r ≤ first_of q + 1
 first_or_next q r e pipe same (inl fewer) = omega (arith, fewer, ap (λ (f : File). f.seq) same, long_span q.older.items q.active.seq pipe.numbers)
