@@ -55,7 +55,7 @@ impl Reports {
 
     fn told(&mut self, alloc: Global, words: &[&str]) -> Result<String, AllocError> {
         let report = report(alloc, words)?;
-        self.list.make_room()?;
+        self.list.make_room(2)?;
         hear(&mut self.list, report);
         self.shown(alloc)
     }
