@@ -10,10 +10,10 @@ use Rattle.raft_cluster_lists.specs.Places.{AreReady, EachGoesOn, GoesOnAlone, G
 use Rattle.raft_laws.proofs.BallotAgreement.{same_some}
 use Rattle.raft_cluster_lists.proofs.PlaceLemmas.{old_at}
 
-pub set_here : {A : Type 0} (xs : List A) (at : ℕ) (x y : A) → slice_get xs at ≡ Some x → slice_get (slice_set xs at y) at ≡ Some y
-set_here [] at x y e = absurd (let no : None ≡ Some x = e in cc)
-set_here (z ∷ zs) zero x y e = refl
-set_here (z ∷ zs) (suc at) x y e = set_here zs at x y e
+pub set_here : {A : Type 0} (xs : List A) (at : ℕ) (y : A) → at < length xs → slice_get (slice_set xs at y) at ≡ Some y
+set_here [] at y within = absurd (omega arith)
+set_here (z ∷ zs) zero y within = refl
+set_here (z ∷ zs) (suc at) y within = set_here zs at y (omega (arith, within))
 
 set_elsewhere : {A : Type 0} (xs : List A) (at other : ℕ) (y : A) → (other ≡ at → ⊥) → slice_get (slice_set xs at y) other ≡ slice_get xs other
 set_elsewhere [] at other y differs = refl
@@ -44,7 +44,7 @@ module _ (goes : ℕ → KeptGroup → KeptGroup → Type 0) (n : ℕ) (olds new
             subst (λ (k : KeptGroup). GoesOnAt goes (slice_set news n y) at k) is
             (record {
               new = y;
-              there = ap (slice_get (slice_set news n y)) here ∙ set_here news n x y there;
+              there = ap (slice_get (slice_set news n y)) here ∙ set_here news n y (slice_get_within news n x there);
               of_group = same;
               goes_on = step;
             }))
@@ -135,7 +135,7 @@ module _ (goes : ℕ → KeptGroup → KeptGroup → Type 0) (groups : List Kept
             let was : Some x ≡ Some old = sym there ∙ e in
             let is : x ≡ old = same_some was in
             subst (λ (k : KeptGroup). GoesOnAt goes (slice_set groups at y) at k) is
-            (record { new = y; there = set_here groups at x y there; of_group = same; goes_on = step });
+            (record { new = y; there = set_here groups at y (slice_get_within groups at x there); of_group = same; goes_on = step });
         others = λ other differs. set_elsewhere groups at other y differs;
       }
 

@@ -32,5 +32,5 @@ returns-clause-there c =
     let y = c.make_room.new.self in
     let there = slice_get-get_or groups c.args.at c.index-groups-at.result c.requires in
     IfOk-weaker c.brought_by.result (Brings y.list.notes c.args.leading.now c.args.event.now) (IsPreparedAt (slice_set groups c.args.at y) c.args.at c.args.leading.now c.args.event.now c.args.events)
-    (λ brought brings. record { kept = y; there = set_here groups c.args.at x y there; ready = c.in_ok-make_room.ensures.ok; brings = brings })
+    (λ brought brings. record { kept = y; there = set_here groups c.args.at y c.requires; ready = c.in_ok-make_room.ensures.ok; brings = brings })
     c.brought_by.ensures
