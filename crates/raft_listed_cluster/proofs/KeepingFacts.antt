@@ -74,7 +74,7 @@ module _ {N : Type 0} (rules : MachineRules) (acts : NodeActs N) (states : NodeS
 
     module _ (olds news : List KeptGroup) (id : Option ℕ) (named : id ≡ node_of sent e)
         (leading : Option Leading) (tells : Tells acts (node_at acts nodes id) (group_of e) leading)
-        (brought : Brought) (ready : IsReadyFor e olds) (brings : BringsTo olds leading e brought)
+        (brought : Brought) (ready : IsReadyFor e 1 olds) (brings : BringsTo olds leading e brought)
         (count : ℕ) (so_many : HasSent sent (group_of e) count) (hears : IsHeardOf acts nodes' later id (group_of e) count e o brought olds news)
         (keeps : KeepsLists rules acts states nodes sent history olds) where
       abbrev ids : List ℕ
@@ -151,7 +151,7 @@ module _ {N : Type 0} (rules : MachineRules) (acts : NodeActs N) (states : NodeS
     pub olds : List KeptGroup
     pub prepared : IsPreparedFor e groups olds
     pub brought : Brought
-    pub ready : IsReadyFor e olds
+    pub ready : IsReadyFor e 1 olds
     pub brings : BringsTo olds leading e brought
     pub count : ℕ
     pub so_many : HasSent (frames_of old.sent) (group_of e) count

@@ -158,7 +158,7 @@ module _ {N : Type 0} (rules : MachineRules) (acts : NodeActs N) (states : NodeS
         subst (IsOn h (Some k)) (sym same) (other_on rules acts states law ids downs nodes sent history t e o nodes' later more h other shut k keeps)
 
     pub heard_each : (olds news : List KeptGroup) (leading : Option Leading) → ((h : ℕ) → group_of e ≡ Some h → acts.leads there.before h leading)
-        → (brought : Brought) → IsReadyFor e olds → BringsTo olds leading e brought
+        → (brought : Brought) → IsReadyFor e 1 olds → BringsTo olds leading e brought
         → (accepted : Option Acceptance) → ((h : ℕ) → group_of e ≡ Some h → accepted ≡ first_accepted (drop (length (sent h)) (later h)))
         → IsHeard more.one.node (acts.leads there.behind) e o accepted brought olds news
         → (h : ℕ) → Keeps h (kept_in olds h) → IsOn h (kept_in olds h) (kept_in news h)

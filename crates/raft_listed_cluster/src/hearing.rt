@@ -66,7 +66,7 @@ pub fn hear_step<N: ClusterNode>(
     recorded: &Recorded,
     brought: Brought,
 )
-    requires { IsReadyFor recorded.now.event lists.old }
+    requires { IsReadyFor recorded.now.event 1 lists.old }
     ensures { IsHeardOf N.acts cluster.now.nodes (frames_of cluster.now.sent) id (group_of recorded.now.event) count
         recorded.now.event recorded.now.outcome brought lists.old lists.new }
 {
