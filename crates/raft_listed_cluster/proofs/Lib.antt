@@ -7,3 +7,5 @@ pub mod EventFacts
 pub mod StepFacts
 pub mod BeginFacts
 pub mod KeepingFacts
+pub mod RoundFacts
+pub mod NumberFacts
