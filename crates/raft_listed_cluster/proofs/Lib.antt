@@ -7,5 +7,6 @@ pub mod EventFacts
 pub mod StepFacts
 pub mod BeginFacts
 pub mod KeepingFacts
+pub mod LatestFacts
 pub mod RoundFacts
 pub mod NumberFacts
