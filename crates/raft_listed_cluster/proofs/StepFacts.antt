@@ -133,6 +133,7 @@ module _ {N : Type 0} (rules : MachineRules) (acts : NodeActs N) (states : NodeS
       (record {
         keeps = same_kept rules ids h (more.next.told.stand.candidates h) more.next.told.plain (noted_with k (before h)) (noted_with next (behind h)) same.2.notes same.2.stopped (asked_still h history real) on.keeps;
         grows = subst (AgreeBelow (length (list_in (notes_of (Some k) (before h)))) (list_in (notes_of (Some k) (before h)))) (sym lists) on.grows;
+        latest = λ vote other. ap (λ a. a.latest vote) same.2.notes.accounts;
       })
 
   module _ (there : IsNodeOf acts nodes sent e o nodes' later more.one.node) (taken : (why : NodeRefusal) → o ≡ outcome.Refused why → IsOpening e → ⊥) where

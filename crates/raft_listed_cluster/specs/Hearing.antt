@@ -20,9 +20,9 @@ abbrev pub AcceptsSince : Sent → Option ℕ → ℕ → Option Acceptance → 
 AcceptsSince sent group count accepted = (h : ℕ) → group ≡ Some h → accepted ≡ first_accepted (drop count (sent h))
 
 module _ {N : Type 0} (acts : NodeActs N) where
-  -- the node, if there is one, tells that it leads the group with this
+  -- the node tells that it leads the group with this; where there is no node, none leads
   abbrev pub Tells : Option N → Option ℕ → Option Leading → Type 0
-  Tells None group leading = Unit {0}
+  Tells None group leading = leading ≡ None
   Tells (Some node) group leading = (h : ℕ) → group ≡ Some h → acts.leads node h leading
 
   -- the lists heard of the event by its node; of one without a node they hear nothing
