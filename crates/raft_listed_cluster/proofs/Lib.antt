@@ -10,3 +10,4 @@ pub mod KeepingFacts
 pub mod LatestFacts
 pub mod RoundFacts
 pub mod NumberFacts
+pub mod RoundKeeping

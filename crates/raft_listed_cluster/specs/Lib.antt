@@ -1,4 +1,4 @@
 pub mod Listed
-pub mod Hearing
 pub mod Numbers
+pub mod Hearing
 pub mod Keeping
