@@ -11,3 +11,4 @@ pub mod LatestFacts
 pub mod RoundFacts
 pub mod NumberFacts
 pub mod RoundKeeping
+pub mod RoundHeard
