@@ -18,7 +18,6 @@ use Rattle.raft_laws.proofs.BallotAgreement.{agree_none, same_some}
 use Rattle.raft_laws.proofs.Committed.{same_front}
 use Rattle.raft_laws.proofs.Counts.{contains_among}
 use Rattle.raft_list_facts.specs.Leads.{leading_in}
-
 use Rattle.raft_list_facts.specs.declared.leading.Leading.{Leading}
 use Rattle.raft_step_laws.specs.Tokens.{seeks_or_leads}
 use Rattle.raft_machines.specs.Machine.{MachineRules}
