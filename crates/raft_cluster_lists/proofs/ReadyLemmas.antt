@@ -7,8 +7,9 @@ use Rattle.std.proofs.lemmas.List.Folds.{find-append}
 use Rattle.raft_group_lists.specs.Room.{HasRoom, HasSpace}
 use Rattle.raft_laws.proofs.BallotAgreement.{same_some}
 use Rattle.raft_list_steps.proofs.RoomLemmas.{less_room}
+use Rattle.raft_cluster_events.specs.declared.event.ClusterEvent.{ClusterEvent}
 use Rattle.raft_cluster_lists.specs.declared.kept.KeptGroup.{KeptGroup}
-use Rattle.raft_cluster_lists.specs.Groups.{KeepReady, KeepsOn, kept_in}
+use Rattle.raft_cluster_lists.specs.Groups.{IsReadyFor, KeepReady, KeepsOn, kept_in}
 use Rattle.raft_cluster_lists.specs.Lists.{IsReady, TakesOne}
 use Rattle.raft_cluster_lists.specs.Places.{AreKeptSo, ArePlaces, EachGoesOn, IsNoLess}
 use Rattle.raft_cluster_lists.proofs.PlaceLemmas.{added_elsewhere, keeps_on}
@@ -58,12 +59,16 @@ keep_ready goes before n olds news keeps on other ready =
           keeps was.0 kept was.2 (ready.each opens h was.0 was.1);
     }
 
-pub keep_less : (n : ℕ) (groups : List KeptGroup) → KeepReady (suc n) n groups groups
-keep_less n groups other ready =
+-- what is ready for many events is ready for fewer
+pub fewer_ready : (event : ClusterEvent) (n more : ℕ) (groups : List KeptGroup) → n ≤ more → IsReadyFor event more groups → IsReadyFor event n groups
+fewer_ready event n more groups less ready =
     record {
-      own = λ h e. let k = ready.own h e in (k.0, k.1, takes_none k.0 n k.2);
-      each = λ opens h kept e. takes_none kept n (ready.each opens h kept e);
+      own = λ h e. let k = ready.own h e in (k.0, k.1, less_ready k.0 n more less k.2);
+      each = λ opens h kept e. less_ready kept n more less (ready.each opens h kept e);
     }
+
+pub keep_less : (n : ℕ) (groups : List KeptGroup) → KeepReady (suc n) n groups groups
+keep_less n groups other ready = fewer_ready other n (suc n) groups (omega arith) ready
 
 -- a group more is ready, and no other one lost room
 module _ (places : ℕ → Option ℕ) (olds mids news : List KeptGroup) (g n : ℕ) (so : AreKeptSo g olds mids) (are : ArePlaces places mids) (on : EachGoesOn (λ h. IsNoLess) mids news)
