@@ -3,3 +3,4 @@ pub mod MarkLaws
 pub mod Cleaning
 pub mod Opened
 pub mod Whole
+pub mod Standing
