@@ -99,6 +99,7 @@ FAULTS = [
     ("3 lines", "1,003 lines", "docs/TESTED.md", "raft_chest_rows has 3 lines, not 1,003"),
     ("some 1 wrong", "some 2 wrong", "docs/TESTED.md", "there are 1 wrong bodies"),
     ("`specs/Chest`", "`HasNoLid`", "crates/raft_chest/README.md", "nothing is named HasNoLid"),
+    ("| c | raft_chest_rows: 2 rows", "| c | raft_chest_rows: 2 rows; raft_lid_rows: 1 row", "docs/TESTED.md", "there is no crate raft_lid_rows"),
 ]
 
 
