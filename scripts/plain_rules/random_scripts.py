@@ -31,11 +31,11 @@ MOST_WAITING = 30
 class Chooser:
     """The choice of one line after the other, for one script."""
 
-    def __init__(self, seed, nodes, groups):
+    def __init__(self, seed, nodes, groups, first=7):
         self.chance = Chance(seed)
         self.script = Script()
         self.nodes = tuple(range(1, nodes + 1))
-        self.numbers = tuple(range(7, 7 + groups))
+        self.numbers = tuple(range(first, first + groups))
         self.firsts = [f"nodes {nodes}"]
         self.firsts += [f"add {node} {group}" for group in self.numbers for node in self.nodes]
         self.now = 0
@@ -50,7 +50,7 @@ class Chooser:
 
     def any_group(self):
         """One of the groups."""
-        return self.chance.one_of(self.numbers, 7)
+        return self.chance.one_of(self.numbers, self.numbers[0])
 
     def leader(self, group):
         """A node that leads the group, if there is one, and now and then any other one."""
@@ -142,12 +142,17 @@ class Chooser:
         return f"reopen {self.chance.one_of(down, self.any_node())} {self.chance.below(4)}"
 
     def init(self, group):
-        """The group is set up, mostly by all nodes."""
+        """The group is set up, mostly by all nodes. Group 8 has a learner that isn't there, and in group 9
+        the last node learns."""
         if self.chance.is_met(100):
             return f"init {self.any_node()} {group} {self.any_node()}"
-        voters = " ".join(map(str, self.nodes))
-        learner = f" / {len(self.nodes) + 1}" if group % 3 == 2 else ""
-        return f"init {self.any_node()} {group} {voters}{learner}"
+        voters, learners = self.nodes, ()
+        if group % 3 == 2:
+            learners = (len(self.nodes) + 1,)
+        elif group % 3 == 0 and len(self.nodes) > 1:
+            voters, learners = self.nodes[:-1], self.nodes[-1:]
+        lists = [" ".join(map(str, it)) for it in (voters, learners) if it]
+        return f"init {self.any_node()} {group} {' / '.join(lists)}"
 
     def add(self, group):
         """A node is to get a group, mostly one that it has."""

@@ -54,6 +54,7 @@ FILES = "| File | What it defines |\n|---|---|\n"
 TREE = {
     "crates.txt": "# floors\nraft_low:\nraft_chest: raft_low thiserror\nraft_chest_rows: raft_chest\n",
     "README.md": "# Top\n\n[arch](docs/ARCHITECTURE.md#the-crates), scripts/edits and `scripts/edits/CRATE`.\n",
+    "docs/GUIDE.md": "# Guide\n\n`1 open -> open`\n\n```rust\nfn lid() {}\n```\n",
     "docs/ARCHITECTURE.md": f"# Plan\n\n## The crates\n\n{LAYERS}| raft_chest | chests | raft_low | yes |\n\n"
                             f"{FILES}| raft_chest/specs/Chest | `IsOpen`, `lid_there` |\n",
     "docs/PROMISES.md": f"# Promises\n\n## Chests (raft_chest)\n\n{TABLE}| a | `impl Box for Chest`, `many_lids` | `opened` |\n"
@@ -68,6 +69,8 @@ TREE = {
     "crates/raft_low/src/lib.rt": "//! Low.\npub fn low_one()\n    ensures { true }\n{}\n",
     "crates/raft_chest_rows/src/main.rt": "//! Rows.\n",
     "crates/raft_chest_rows/stdout": "# one\na -> 1\nb -> 2\n",
+    "crates/raft_embedding/src/main.rt": "//! Embeds.\nfn lid() {}\n",
+    "crates/raft_embedding/stdout": "1 open -> open\n",
     "scripts/edits/raft_chest/a_lid_stays.edit": "why: a\n",
 }
 # What is turned, in which file, and words of the fault that has to be found then.
@@ -98,7 +101,10 @@ FAULTS = [
     ("2 rows", "1 rows", "docs/TESTED.md", "raft_chest_rows has 2 rows, not 1"),
     ("3 lines", "1,003 lines", "docs/TESTED.md", "raft_chest_rows has 3 lines, not 1,003"),
     ("some 1 wrong", "some 2 wrong", "docs/TESTED.md", "there are 1 wrong bodies"),
+    ("1 open -> open", "1 open -> shut", "docs/GUIDE.md", "raft_embedding prints no row 1 open -> shut"),
+    ("fn lid()", "fn lids()", "docs/GUIDE.md", "the sources of raft_embedding have no line fn lids() {}"),
     ("`specs/Chest`", "`HasNoLid`", "crates/raft_chest/README.md", "nothing is named HasNoLid"),
+    ("| c | raft_chest_rows: 2 rows", "| c | raft_chest_rows: 2 rows; raft_lid_rows: 1 row", "docs/TESTED.md", "there is no crate raft_lid_rows"),
 ]
 
 

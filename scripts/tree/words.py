@@ -1,9 +1,10 @@
-"""Checks that names in backticks still stand somewhere in the tree: in sources, definitions, proofs, or as an edit or a crate."""
+"""Checks that names in backticks still stand somewhere in the tree: in sources, definitions, proofs, or as an edit or a crate.
+So do names of crates in the text."""
 import glob
 import os
 import re
 
-from page import TICKS
+from page import CRATE, TICKS
 
 NAME = re.compile(r"^[A-Za-z]\w*(?:(?:::|\.)[A-Za-z]\w*)*$")
 # Pages that speak of other programs too, or of what is no longer there.
@@ -33,3 +34,6 @@ def check(tree, page):
                 for it in parts:
                     if it not in tree.known_words():
                         yield line, f"nothing is named {it}"
+        for name in CRATE.findall(TICKS.sub("", text)):
+            if name not in tree.known_words():
+                yield line, f"there is no crate {name}"
