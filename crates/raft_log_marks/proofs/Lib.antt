@@ -4,3 +4,5 @@ pub mod CleaningLemmas
 pub mod OpenedLemmas
 pub mod WholeLemmas
 pub mod StandingLemmas
+pub mod FoundLemmas
+pub mod MadeLemmas

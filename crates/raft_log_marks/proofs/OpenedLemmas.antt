@@ -19,8 +19,8 @@ all_behind [] content account h = h
 all_behind (b ∷ bs) content account h = all_behind bs (after_batch b.items content) (account_after b.file b.items account) (items_behind b.file b.items content account h)
 
 pub replays_are_cleanable : {E : Type 0} → ReplaysAreCleanable E
-replays_are_cleanable traces opened records bs first unmarked rise has = record {
-  kept = replays_keep traces opened records bs first unmarked rise has;
+replays_are_cleanable opened records bs first rise has = record {
+  kept = replays_keep opened records bs first rise has;
   behind = all_behind bs _ _ (λ group i j l s n. absurd cc);
 }
 

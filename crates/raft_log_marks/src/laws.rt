@@ -12,6 +12,7 @@ ghost use Rattle.raft_log_marks.specs.Standing.{CleanedQueuesReadAsTheContent};
 ghost use Rattle.raft_log_marks.specs.Standing.{NewQueuesCanBeCleaned, WritesLeaveCleanable};
 ghost use Rattle.raft_log_marks.specs.Standing.{FilesThatGoLeaveCleanable};
 ghost use Rattle.raft_log_marks.specs.Opened.{ReplaysAreCleanable, SettledGroupsKeepNoFile};
+ghost use Rattle.raft_log_marks.specs.Opened.{OpenedQueuesCanBeCleaned};
 
 /// Once the marks of a group stand in the rewrite queue and its trace says so, the invariant of the
 /// two queues holds as before.
@@ -42,10 +43,12 @@ pub fn files_before_the_least_may_go()
     ensures { FilesBeforeTheLeastMayGo (List ℕ) }
 {}
 
-/// Queues that are opened can be cleaned, whatever append files were left over. Groups of which all
-/// stands in the rewrite queue keep no file.
+/// Queues that are opened can be cleaned, whatever append files were left over, by traces of replayed
+/// batches and of the places of the entries that are there. Groups of which all stands in the rewrite
+/// queue keep no file.
 pub fn opened_queues_are_cleanable()
     ensures replayed { ReplaysAreCleanable (List ℕ) }
+    ensures opened { OpenedQueuesCanBeCleaned (List ℕ) }
     ensures settled { SettledGroupsKeepNoFile (List ℕ) }
 {}
 
