@@ -1,6 +1,6 @@
 -- What is so of a group while the append queue is replayed, whatever batches come.
-use Rattle.std.proofs.Common.{◌≡◌, ◌≤◌, ◌<◌, ◌+◌, ℕ, suc, Bool, true, false, cond, List, [], ◌∷◌, ◌++◌, length, Option, Some, None, refl, sym, ap, subst, ◌∙◌, arith, le_refl, le_trans, ltb-true, ltb-false, leb-false, true≢false, add-one}
-use Rattle.std.specs.Prelude.{◌&&◌, ◌||◌, IsSome, nat_eq, nat_le, nat_lt, bytes_eq}
+use Rattle.std.proofs.Common.{◌≡◌, ◌≤◌, ◌+◌, ℕ, suc, Bool, true, false, cond, List, [], ◌∷◌, ◌++◌, length, Option, Some, None, refl, sym, ap, subst, ◌∙◌, arith, le_refl, le_trans, ltb-true, ltb-false, leb-false, true≢false}
+use Rattle.std.specs.Prelude.{IsSome, nat_eq, nat_le, nat_lt, bytes_eq}
 use Rattle.std.specs.List.{AllByRecursion}
 use Rattle.std.proofs.lemmas.Bool.{eq-eqb, eqb-true, leb-true, le-leb}
 use Rattle.raft_log_records.specs.Item.{Change, Item}
@@ -17,7 +17,6 @@ use Rattle.raft_log_covers.specs.Kept.{Traces, new_trace, replayed_traces, trace
 use Rattle.raft_log_covers.specs.Marks.{Names}
 use Rattle.raft_log_covers.specs.Queues.{Filed, FilesRise, batches_of}
 use Rattle.raft_log_covers.specs.Trace.{Trace, least, greater, entered, cut, trace_after, names_after}
-use Rattle.raft_log_covers.proofs.FileLemmas.{not_there}
 use Rattle.raft_log_covers.proofs.KeptLemmas.{account_after_item, account_after_items, same_account}
 use Rattle.raft_log_marks.specs.Opened.{past_of, reach_of_records}
 
@@ -538,18 +537,18 @@ module _ {E : Type 0} where
   replay_found first records bs rise u group =
       let k = content_within records in
       let all = all_found first first bs (λ g. new_trace) (content_of records) (content_of records) no_account (reach_of_records records) (le_refl first) rise
-          (λ g. record {
-            zero = λ e. (refl, refl, refl);
-            none = (k g).1;
-            past = λ c. (k g).0;
-            gone = λ c. (k g).1;
-            untouched = λ e c. refl;
-            within = (k g).0;
-            keys = λ name. tt;
-            most = λ c. tt;
-            rises = λ i j f l s n. absurd cc;
-            below = λ i n j l s. absurd cc;
-          }) in (
+      (λ g. record {
+        zero = λ e. (refl, refl, refl);
+        none = (k g).1;
+        past = λ c. (k g).0;
+        gone = λ c. (k g).1;
+        untouched = λ e c. refl;
+        within = (k g).0;
+        keys = λ name. tt;
+        most = λ c. tt;
+        rises = λ i j f l s n. absurd cc;
+        below = λ i n j l s. absurd cc;
+      }) in (
         all.0,
         subst (λ (r : ℕ → Option ℕ). Found first all.0 (replayed_traces bs group) (content_of records group) (after_batches (batches_of bs) (content_of records) group) (account_after_all bs no_account group) (r group))
             (sym (reach_composes records (batches_of bs) u)) (all.1 group),

@@ -1,5 +1,5 @@
 -- The traces that an opening makes are what the laws ask.
-use Rattle.std.proofs.Common.{◌≡◌, ◌≤◌, ◌<◌, ◌+◌, ◌-◌, ℕ, Bool, true, false, List, ◌++◌, Option, Some, None, refl, sym, ap, subst, ◌∙◌, arith, le_refl, ltb-true, ltb-false, ◌⊎◌, inl, inr, ⊎_elim, true≢false}
+use Rattle.std.proofs.Common.{◌≡◌, ◌≤◌, ◌<◌, ◌-◌, ℕ, Bool, true, false, List, Option, Some, None, refl, sym, ap, subst, ◌∙◌, arith, le_refl, ltb-true, ltb-false, ◌⊎◌, inl, inr, ⊎_elim}
 use Rattle.std.specs.Prelude.{IsSome, nat_lt}
 use Rattle.raft_log_memtables.specs.Content.{GroupContent}
 use Rattle.raft_log_memtables.specs.Replay.{content_of}
@@ -9,7 +9,7 @@ use Rattle.raft_log_covers.specs.Cells.Cell.{index, key}
 use Rattle.raft_log_covers.specs.Kept.{IsFirstOf, IsReplayed, new_trace, replayed_traces}
 use Rattle.raft_log_covers.specs.Marks.{Names}
 use Rattle.raft_log_covers.specs.Queues.{batches_of}
-use Rattle.raft_log_covers.specs.Trace.{Trace, IsBounded, TellsFiles}
+use Rattle.raft_log_covers.specs.Trace.{Trace, IsBounded}
 use Rattle.raft_log_covers.proofs.FileLemmas.{not_there}
 use Rattle.raft_log_covers.proofs.KeptLemmas.{names_late}
 use Rattle.raft_log_covers.proofs.PlacedLemmas.{places_tell_files, traces_tell_keys}
@@ -186,7 +186,7 @@ opened_queues_can_be_cleaned {E} at first opened records bs rise unmarked older 
     each group =
         let k = replay_found first records bs rise unmarked group in
         made at first k.0 (replayed_traces bs group) (opened group) (content_of records group) (after_batches (batches_of bs) (content_of records) group) (account_after_all bs no_account group) _ k.1
-            (names_late first first bs no_account (le_refl first) rise (λ g c. tt) group)
-            (λ i e is. places_tell_files at (content_of records) bs older filed group i e is)
-            (λ q s. traces_tell_keys (content_of records) bs (λ g. new_trace) (λ g name. refl) group q s)
-            (has group)
+        (names_late first first bs no_account (le_refl first) rise (λ g c. tt) group)
+        (λ i e is. places_tell_files at (content_of records) bs older filed group i e is)
+        (λ q s. traces_tell_keys (content_of records) bs (λ g. new_trace) (λ g name. refl) group q s)
+        (has group)

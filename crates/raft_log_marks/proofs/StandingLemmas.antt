@@ -6,14 +6,13 @@ use Rattle.std.proofs.lemmas.Bool.{eqb-true, lt-leb}
 use Rattle.raft_log_records.specs.Item.{Change, Item}
 use Rattle.raft_log_records.specs.Item.Change.{entries, clean, compact, put, delete, mark}
 use Rattle.raft_log_records.specs.Spelling.{first_index}
-use Rattle.raft_log_memtables.specs.Content.{GroupContent, Content, nothing, after_change, after_item, after_batch}
-use Rattle.raft_log_memtables.specs.Replay.{mark_of, content_of}
+use Rattle.raft_log_memtables.specs.Content.{Content, nothing, after_change, after_item, after_batch}
+use Rattle.raft_log_memtables.specs.Replay.{content_of}
 use Rattle.raft_log_memtables.specs.Taken.{TakesEach}
 use Rattle.raft_log_covers.specs.Account.{Account, IsFrom, no_account, account_after}
 use Rattle.raft_log_covers.specs.Cells.{AreUnmarked, after_batches}
-use Rattle.raft_log_covers.specs.Kept.{Traces, AllGoOn, new_trace, traces_after, traces_after_item}
-use Rattle.raft_log_covers.specs.Marks.{Names}
-use Rattle.raft_log_covers.specs.Queues.{Filed, FilesRise, batches_of, batches_from}
+use Rattle.raft_log_covers.specs.Kept.{Traces, AllGoOn, traces_after, traces_after_item}
+use Rattle.raft_log_covers.specs.Queues.{Filed, batches_of, batches_from}
 use Rattle.raft_log_covers.specs.Trace.{Trace, GoOn, Knows, least, greater, entered, cut, trace_after, names_after}
 use Rattle.raft_log_covers.proofs.AccountLemmas.{files_are_forgotten}
 use Rattle.raft_log_covers.proofs.CellLemmas.{after_batches-append}
@@ -22,11 +21,11 @@ use Rattle.raft_log_covers.proofs.KnownLemmas.{changes_keep_known}
 use Rattle.raft_log_covers.proofs.QueueLemmas.{all_stay}
 use Rattle.raft_log_covers.proofs.RewrittenLemmas.{traces_let_go}
 use Rattle.raft_log_covers.proofs.TraceLemmas.{least_of_greater}
-use Rattle.raft_log_traces.specs.Alike.{IsAlike, AreAlike}
+use Rattle.raft_log_traces.specs.Alike.{IsAlike}
 use Rattle.raft_log_traces.specs.Files.{KeepsFrom}
 use Rattle.raft_log_traces.proofs.LawLemmas.{kept_files_tell}
 use Rattle.raft_log_marks.specs.Cleaning.{IsCleanable}
-use Rattle.raft_log_marks.specs.Standing.{CanBeCleaned, CleanedQueuesReadAsTheContent, NewQueuesCanBeCleaned, WritesLeaveCleanable, FilesThatGoLeaveCleanable}
+use Rattle.raft_log_marks.specs.Standing.{CleanedQueuesReadAsTheContent, NewQueuesCanBeCleaned, WritesLeaveCleanable, FilesThatGoLeaveCleanable}
 use Rattle.raft_log_marks.specs.Whole.{HasLast, Follows}
 use Rattle.raft_log_marks.proofs.CleaningLemmas.{new_queues_are_cleanable, writes_keep_cleanable, files_before_the_least_may_go}
 use Rattle.raft_log_marks.proofs.WholeLemmas.{taken_changes_go_on, changes_leave_last, alike_last}

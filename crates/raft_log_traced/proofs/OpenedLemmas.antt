@@ -1,8 +1,7 @@
 -- Traces as an opening makes them, step by step.
-use Rattle.std.proofs.Common.{◌≡◌, ◌≤◌, ◌<◌, ◌+◌, ◌-◌, ℕ, suc, Bool, true, false, cond, List, [], ◌∷◌, ◌++◌, Option, Some, None, refl, sym, ap, subst, ◌∙◌, arith, le_refl, ltb-true, ltb-false, true≢false}
+use Rattle.std.proofs.Common.{◌≡◌, ◌≤◌, ◌<◌, ◌+◌, ◌-◌, ℕ, Bool, true, false, cond, List, [], ◌∷◌, ◌++◌, Option, Some, None, refl, sym, ap, subst, ◌∙◌, arith, ltb-true, ltb-false, true≢false}
 use Rattle.std.specs.Prelude.{◌||◌, IsSome, nat_eq, nat_le, nat_lt}
 use Rattle.std.specs.Cmp.{unsigned_tied}
-use Rattle.std.specs.List.{list_any}
 use Rattle.std.specs.Ordering.{eq_by_cmp, nat_cmp}
 use Rattle.std.specs.Set.{is_member}
 use Rattle.std.proofs.lemmas.Bool.{eq-eqb, eqb-true, leb-true, le-leb}
@@ -10,7 +9,6 @@ use Rattle.raft_log_records.specs.declared.item.EntryIndex.{EntryIndex}
 use Rattle.raft_log_memtables.specs.Content.{GroupContent}
 use Rattle.raft_log_memtables.specs.Entries.{IsFirst, IsLast}
 use Rattle.raft_log_covers.specs.Kept.{Traces, with_trace}
-use Rattle.raft_log_covers.specs.Marks.{is_in}
 use Rattle.raft_log_covers.specs.Trace.{Trace}
 use Rattle.raft_log_covers.proofs.FileLemmas.{not_there}
 use Rattle.raft_log_traces.specs.Alike.{IsAlike, AreAlike}

@@ -1,6 +1,6 @@
 -- What was replayed can be cleaned by the traces that an opening makes.
-use Rattle.std.proofs.Common.{◌≡◌, ◌≤◌, ◌<◌, ℕ, Bool, true, false, cond, List, [], ◌∷◌, ◌++◌, map, Option, Some, None, refl, sym, ap, subst, ◌∙◌, inl, inr, ◌⊎◌}
-use Rattle.std.specs.Prelude.{IsSome, nat_eq, nat_le, nat_lt}
+use Rattle.std.proofs.Common.{◌≡◌, ℕ, Bool, true, false, cond, List, [], ◌∷◌, ◌++◌, map, Option, Some, None, refl, sym, ap, subst, ◌∙◌, inl, inr, ◌⊎◌}
+use Rattle.std.specs.Prelude.{nat_eq, nat_le, nat_lt}
 use Rattle.std.specs.List.{AllByRecursion}
 use Rattle.std.specs.Ordering.{eq_by_cmp, nat_cmp}
 use Rattle.std.specs.Set.{is_member}
@@ -20,13 +20,12 @@ use Rattle.raft_log_covers.specs.Cells.{AreUnmarked, after_batches}
 use Rattle.raft_log_covers.specs.Kept.{Traces, new_trace, replayed_traces, traces_after, traces_after_all}
 use Rattle.raft_log_covers.specs.Marks.{is_in}
 use Rattle.raft_log_covers.specs.Placed.{AreFiled, ChangeIn, EachIn, ItemsIn}
-use Rattle.raft_log_covers.specs.Queues.{Filed, FilesRise, batches_of}
+use Rattle.raft_log_covers.specs.Queues.{FilesRise, batches_of}
 use Rattle.raft_log_covers.specs.Trace.{Trace}
 use Rattle.raft_log_covers.proofs.CellLemmas.{records_compose}
 use Rattle.raft_log_recovery.specs.Replay.{Placed}
 use Rattle.raft_log_replay.specs.Batches.{content_over, reach_over, records_in}
 use Rattle.raft_log_traces.specs.Alike.{AreAlike, IsAlike}
-use Rattle.raft_log_traces.specs.Opened.{trace_since}
 use Rattle.raft_log_traces.proofs.LawLemmas.{entries_say_nothing}
 use Rattle.raft_log_marks.specs.Opened.{HasEnds, IsMadeOf, IsSince, reach_of_records}
 use Rattle.raft_log_marks.specs.Standing.{CanBeCleaned}
@@ -34,7 +33,7 @@ use Rattle.raft_log_marks.proofs.FoundLemmas.{replayed_both}
 use Rattle.raft_log_marks.proofs.MadeLemmas.{opened_queues_can_be_cleaned}
 use Rattle.raft_log_traced.specs.Opened.{AreChanged, HasEntries, HasRest, HasSince}
 use Rattle.raft_log_traced.specs.Traced.{AreOf, file_on, filed_in, lies_in, traces_over, traces_with}
-use Rattle.raft_log_traced.proofs.OpenedLemmas.{alike_rest, both_rest}
+use Rattle.raft_log_traced.proofs.OpenedLemmas.{alike_rest}
 
 -- ---- where entries lie
 
