@@ -15,7 +15,7 @@ use Rattle.raft_log_covers.specs.Written.{Written, AreWritten, all_records}
 use Rattle.raft_log_covers.specs.Account.{Account, IsFrom, IsAccounted, no_account, account_after, account_after_all, NamesNoneBefore}
 use Rattle.raft_log_covers.specs.Marks.{of_group, after_changes, deletes, is_in, Names, with_group, marks, MayRewrite, names_after_marks, names_after_entries, names_after_put}
 use Rattle.raft_log_covers.specs.Trace.{Trace, file_of, IsBounded, Bounds, Knows, TellsFiles, KnowsRemoved, GoOn, AreRun, trace_after, names_after, trace_marked, trace_rewritten, trace_put, settled_by}
-use Rattle.raft_log_covers.specs.Kept.{GivesAll, HasWhole, traces_after_all, IsFirstOf, IsReplayed, IsUnmarked, IsOpened, new_trace, NamesNoEarlier, Traces, IsKept, traces_after_item, traces_after, AllGoOn, with_trace}
+use Rattle.raft_log_covers.specs.Kept.{GivesAll, HasWhole, traces_after_all, replayed_traces, IsFirstOf, IsReplayed, AreReplayed, IsOpened, new_trace, NamesNoEarlier, Traces, IsKept, traces_after_item, traces_after, AllGoOn, with_trace}
 use Rattle.raft_log_covers.proofs.CellLemmas.{records_compose, same_entry, same_value}
 use Rattle.raft_log_covers.proofs.QueueLemmas.{read_as_the_content}
 use Rattle.raft_log_covers.proofs.AccountLemmas.{writes_account, openings_account, either_part, old_rewrites_may_go, files_may_go}
@@ -33,11 +33,11 @@ bounded_by_own : (o : Option ℕ) → IsBounded o o
 bounded_by_own None = tt
 bounded_by_own (Some file) = le_refl file
 
-is_there_is : {X : Type 0} (o : Option X) (x : X) → o ≡ Some x → IsSome o
+pub is_there_is : {X : Type 0} (o : Option X) (x : X) → o ≡ Some x → IsSome o
 is_there_is None x e = absurd cc
 is_there_is (Some y) x e = refl
 
-bounded_by_none : (o kept : Option ℕ) → o ≡ None → IsBounded o kept
+pub bounded_by_none : (o kept : Option ℕ) → o ≡ None → IsBounded o kept
 bounded_by_none None kept e = tt
 bounded_by_none (Some file) kept e = absurd cc
 
@@ -370,7 +370,7 @@ module _ {E : Type 0} where
   all_removed (b ∷ bs) traces older content account h =
       all_removed bs (traces_after b.file b.items traces) older (after_batch b.items content) (account_after b.file b.items account) (batch_removed b.file b.items traces older content account h)
 
-  names_late : (first least : ℕ) (bs : List (Filed E)) (account : Account) → first ≤ least → FilesRise least bs → NamesNoneBefore first account → NamesNoneBefore first (account_after_all bs account)
+  pub names_late : (first least : ℕ) (bs : List (Filed E)) (account : Account) → first ≤ least → FilesRise least bs → NamesNoneBefore first account → NamesNoneBefore first (account_after_all bs account)
   names_late first least [] account h rise late = late
   names_late first least (b ∷ bs) account h rise late = names_late first b.file bs (account_after b.file b.items account) (le_trans h rise.0) rise.1 (λ group c. by_set group c (batch_sets b.items group c))
     where
@@ -382,36 +382,33 @@ module _ {E : Type 0} where
   entry_bounded None names file named hole = hole refl
   entry_bounded (Some x) names file named hole = subst (λ (n : Option ℕ). IsBounded names n) (named refl) (bounded_by_own names)
 
-  opened_bounds : (first : ℕ) (t u : Trace) (g : GroupContent E) (names : Names) → ((c : Cell) → IsFrom first (names c)) → IsReplayed first t u g names → Bounds u g names
-  opened_bounds first t u g names late o presence = first_bounds first names u.since o.since late presence
-  opened_bounds first t u g names late o (index i) = by_place (nat_lt i u.low) refl (nat_lt i u.next) refl
+  opened_bounds : (first : ℕ) (t u : Trace) (older g : GroupContent E) (names : Names) → ((c : Cell) → IsFrom first (names c)) → IsReplayed first t u older g names → Bounds u g names
+  opened_bounds first t u older g names late o presence = first_bounds first names u.since o.since late presence
+  opened_bounds first t u older g names late o (index i) = by_place (nat_lt i u.low) refl (nat_lt i u.next) refl
     where
       by_place : (l : Bool) → nat_lt i u.low ≡ l → (n : Bool) → nat_lt i u.next ≡ n → IsBounded (names (index i)) (cond l u.since (cond n (u.entry_file i) u.tail))
       by_place true h n k = first_bounds first names u.since o.since late (index i)
       by_place false h true k = entry_bounded (g.entry i) (names (index i)) (u.entry_file i) (o.files.entries_named i) (o.holes i (ltb-false i u.low h) (ltb-true i u.next k))
       by_place false h false k = first_bounds first names u.tail o.tail late (index i)
-  opened_bounds first t u g names late o (key k) = by_value (is_some (g.value k)) refl
+  opened_bounds first t u older g names late o (key k) = by_value (is_some (g.value k)) refl
     where
       by_value : (b : Bool) → is_some (g.value k) ≡ b → IsBounded (names (key k)) (cond b (u.key_file k) u.since)
       by_value true h = subst (λ (n : Option ℕ). IsBounded (names (key k)) n) (o.files.keys_named k h) (bounded_by_own (names (key k)))
       by_value false h = first_bounds first names u.since o.since late (key k)
 
-  first_removed : (t : Trace) (g : GroupContent E) → IsUnmarked t g → KnowsRemoved t g g (λ c. None)
-  first_removed t g o = record {
-    past = λ c i h. o.past i h;
-    gone = λ q h. absurd (true≢false (sym h ∙ ap (is_in q) o.none_deleted));
+  new_removed : (g : GroupContent E) → KnowsRemoved new_trace g g (λ c. None)
+  new_removed g = record {
+    gone = λ q h. absurd (true≢false (sym h));
     all_gone = λ c q h n. h;
-    entries_since = λ c. absurd (true≢false (sym c ∙ o.not_cleaned));
-    keys_since = λ c. absurd (true≢false (sym c ∙ o.not_cleaned));
+    entries_since = λ c. absurd (true≢false (sym c));
+    keys_since = λ c. absurd (true≢false (sym c));
   }
 
-  pub replays_keep : (traces opened : Traces) (records : List (List (Item E))) (bs : List (Filed E)) (first : ℕ)
-      → ((group : ℕ) → IsUnmarked (traces group) (content_of records group)) → FilesRise first bs
-      → ((group : ℕ) → IsReplayed first (traces_after_all bs traces group) (opened group) (after_batches (batches_of bs) (content_of records) group) (account_after_all bs no_account group))
+  pub replays_keep : (opened : Traces) (records : List (List (Item E))) (bs : List (Filed E)) (first : ℕ) → FilesRise first bs → AreReplayed first records bs opened
       → IsKept opened (account_after_all bs no_account) records (after_batches (batches_of bs) (content_of records)) bs
-  replays_keep traces opened records bs first unmarked rise has = record {
+  replays_keep opened records bs first rise has = record {
     accounted = openings_account (content_of records) bs;
-    bounds = λ group. opened_bounds first (traces_after_all bs traces group) (opened group) (after_batches (batches_of bs) (content_of records) group) (account_after_all bs no_account group)
+    bounds = λ group. opened_bounds first (replayed_traces bs group) (opened group) (content_of records group) (after_batches (batches_of bs) (content_of records) group) (account_after_all bs no_account group)
         (names_late first first bs no_account (le_refl first) rise (λ g c. tt) group) (has group);
     knows = knows;
     files = λ group. (has group).files;
@@ -420,13 +417,13 @@ module _ {E : Type 0} where
       knows : (group : ℕ) → Knows (opened group) (content_of records group) (after_batches (batches_of bs) (content_of records) group) (account_after_all bs no_account group)
       knows group =
           let o = has group in
-          let r = all_removed bs traces (content_of records) (content_of records) no_account (λ g. first_removed (traces g) (content_of records g) (unmarked g)) group in
+          let r = all_removed bs (λ g. new_trace) (content_of records) (content_of records) no_account (λ g. new_removed (content_of records g)) group in
           record {
             below = o.below;
             above = o.above;
             ends = o.ends;
             empty_top = o.empty_top;
-            past = λ c i h. r.past (sym o.cleaned ∙ c) i (le_trans o.top h);
+            past = o.past;
             gone = λ q h. r.gone q (sym (o.deleted q) ∙ h);
             all_gone = λ c q h n. r.all_gone (sym o.cleaned ∙ c) q h (sym (o.deleted q) ∙ n);
             entries_since = λ c. r.entries_since (sym o.cleaned ∙ c);

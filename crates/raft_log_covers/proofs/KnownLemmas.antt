@@ -186,7 +186,6 @@ module _ {E : Type 0} where
   put_removed : (file : ℕ) (name value : List ℕ) (t : Trace) (older g : GroupContent E) (names : Names) → KnowsRemoved t older g names
       → KnowsRemoved (trace_after {E = E} file (put name value) t) older (after_change (put name value) g) (names_after {E = E} file (put name value) names)
   put_removed file name value t older g names k = record {
-    past = k.past;
     gone = λ q h. gone_so q (bytes_eq name q) refl h;
     all_gone = λ c q h n. all_so c q (bytes_eq name q) refl h n;
     entries_since = k.entries_since;
@@ -208,7 +207,6 @@ module _ {E : Type 0} where
   delete_removed : (file : ℕ) (name : List ℕ) (t : Trace) (older g : GroupContent E) (names : Names) → KnowsRemoved t older g names
       → KnowsRemoved (trace_after {E = E} file (delete name) t) older (after_change (delete name) g) (names_after {E = E} file (delete name) names)
   delete_removed file name t older g names k = record {
-    past = k.past;
     gone = λ q h. gone_so q (bytes_eq name q) refl (sym (in_last q name (without name t.deleted)) ∙ h);
     all_gone = λ c q h n. all_so c q (bytes_eq name q) refl h (sym (in_last q name (without name t.deleted)) ∙ n);
     entries_since = k.entries_since;
@@ -228,7 +226,7 @@ module _ {E : Type 0} where
       since c q false h = k.keys_since c q h
 
   removed_of : (t : Trace) (older g : GroupContent E) (names : Names) → Knows t older g names → KnowsRemoved t older g names
-  removed_of t older g names k = record { past = k.past; gone = k.gone; all_gone = k.all_gone; entries_since = k.entries_since; keys_since = k.keys_since }
+  removed_of t older g names k = record { gone = k.gone; all_gone = k.all_gone; entries_since = k.entries_since; keys_since = k.keys_since }
 
   entries_removed : (file : ℕ) (es : List (ℕ × E)) (t : Trace) (older g : GroupContent E) (names : Names) → KnowsRemoved t older g names → (b : Bool)
       → KnowsRemoved (entered file (first_index es) (first_index es + length es) t b) older (after_change (entries es) g) (names_after file (entries es) names)
@@ -241,12 +239,9 @@ module _ {E : Type 0} where
           by_test true h = absurd cc
           by_test false h = k.entries_since c i h
 
-      past : t.cleaned ≡ false → (i : ℕ) → cond (nat_lt t.top (first_index es + length es)) (first_index es + length es) t.top ≤ i → older.entry i ≡ None
-      past c i h = k.past c i (le_trans (above_both t.top (first_index es + length es)).0 h)
-
       by_case : (b : Bool) → KnowsRemoved (entered file (first_index es) (first_index es + length es) t b) older (after_change (entries es) g) (names_after file (entries es) names)
-      by_case true = record { past = past; gone = k.gone; all_gone = k.all_gone; entries_since = since; keys_since = k.keys_since }
-      by_case false = record { past = past; gone = k.gone; all_gone = k.all_gone; entries_since = since; keys_since = k.keys_since }
+      by_case true = record { gone = k.gone; all_gone = k.all_gone; entries_since = since; keys_since = k.keys_since }
+      by_case false = record { gone = k.gone; all_gone = k.all_gone; entries_since = since; keys_since = k.keys_since }
 
   compact_removed : (file limit : ℕ) (t : Trace) (older g : GroupContent E) (names : Names) → KnowsRemoved t older g names → (b : Bool)
       → KnowsRemoved (cut file (greater t.low limit) t b) older (after_change (compact limit) g) (names_after {E = E} file (compact limit) names)
@@ -260,14 +255,13 @@ module _ {E : Type 0} where
           by_test false h = k.entries_since c i h
 
       by_case : (b : Bool) → KnowsRemoved (cut file (greater t.low limit) t b) older (after_change (compact limit) g) (names_after {E = E} file (compact limit) names)
-      by_case true = record { past = k.past; gone = k.gone; all_gone = k.all_gone; entries_since = since; keys_since = k.keys_since }
-      by_case false = record { past = k.past; gone = k.gone; all_gone = k.all_gone; entries_since = since; keys_since = k.keys_since }
+      by_case true = record { gone = k.gone; all_gone = k.all_gone; entries_since = since; keys_since = k.keys_since }
+      by_case false = record { gone = k.gone; all_gone = k.all_gone; entries_since = since; keys_since = k.keys_since }
 
   pub changes_keep_removed : (file : ℕ) (change : Change E) (t : Trace) (older g : GroupContent E) (names : Names) → KnowsRemoved t older g names
       → KnowsRemoved (trace_after file change t) older (after_change change g) (names_after file change names)
   changes_keep_removed file (entries es) t older g names k = entries_removed file es t older g names k (nat_lt t.low t.next)
   changes_keep_removed file clean t older g names k = record {
-    past = λ c. absurd (true≢false c);
     gone = λ q h. refl;
     all_gone = λ c. absurd (true≢false c);
     entries_since = λ c i h. refl;
@@ -277,7 +271,6 @@ module _ {E : Type 0} where
   changes_keep_removed file (put name value) t older g names k = put_removed file name value t older g names k
   changes_keep_removed file (delete name) t older g names k = delete_removed file name t older g names k
   changes_keep_removed file (mark id status) t older g names k = record {
-    past = k.past;
     gone = k.gone;
     all_gone = k.all_gone;
     entries_since = k.entries_since;
@@ -304,7 +297,7 @@ module _ {E : Type 0} where
     above = k.above;
     ends = k.ends;
     empty_top = k.empty_top;
-    past = r.past;
+    past = k.past;
     gone = r.gone;
     all_gone = r.all_gone;
     entries_since = r.entries_since;
@@ -315,7 +308,7 @@ module _ {E : Type 0} where
     above = k.above;
     ends = k.ends;
     empty_top = k.empty_top;
-    past = r.past;
+    past = k.past;
     gone = r.gone;
     all_gone = r.all_gone;
     entries_since = r.entries_since;

@@ -147,15 +147,16 @@ traces_after_all (b ∷ bs) traces = traces_after_all bs (traces_after b.file b.
 abbrev pub IsFirstOf : ℕ → Names → Option ℕ → Type 0
 IsFirstOf first names kept = (kept ≡ Some first) ⊎ ((c : Cell) → names c ≡ None)
 
--- What the trace of a group has to say after the replay, where t is what the batches made of it. Its ends are those of the entries
--- that are there. They and the keys that are there stand in the files that the account names; at a hole the file isn't after that
--- one. For all else there is the first append file, if the account names any.
-pub record IsReplayed {E : Type 0} (first : ℕ) (t opened : Trace) (g : GroupContent E) (names : Names) : Type 0 where
+-- What the trace of a group has to say after the replay, where t is what the batches made of a new one. Its ends are those of the
+-- entries that are there, and no entry of the rewrite queue lies past its top unless the group was cleaned. They and the keys that
+-- are there stand in the files that the account names; at a hole the file isn't after that one. For all else there is the first
+-- append file, if the account names any.
+pub record IsReplayed {E : Type 0} (first : ℕ) (t opened : Trace) (older g : GroupContent E) (names : Names) : Type 0 where
   pub below : (i : ℕ) → i < opened.low → g.entry i ≡ None
   pub above : (i : ℕ) → opened.low ≤ i → opened.next ≤ i → g.entry i ≡ None
   pub ends : opened.next ≤ opened.top
   pub empty_top : opened.next ≤ opened.low → opened.top ≤ opened.low
-  pub top : t.top ≤ opened.top
+  pub past : opened.cleaned ≡ false → (i : ℕ) → opened.top ≤ i → older.entry i ≡ None
   pub since : IsFirstOf first names opened.since
   pub tail : IsFirstOf first names opened.tail
   pub files : TellsFiles opened g names
@@ -163,16 +164,18 @@ pub record IsReplayed {E : Type 0} (first : ℕ) (t opened : Trace) (g : GroupCo
   pub cleaned : opened.cleaned ≡ t.cleaned
   pub deleted : (k : List ℕ) → is_in k opened.deleted ≡ is_in k t.deleted
 
--- what the rewrite queue alone leaves of a trace
-pub record IsUnmarked {E : Type 0} (t : Trace) (g : GroupContent E) : Type 0 where
-  pub past : (i : ℕ) → t.top ≤ i → g.entry i ≡ None
-  pub not_cleaned : t.cleaned ≡ false
-  pub none_deleted : t.deleted ≡ []
+-- the traces that batches of the append queue make of new ones
+abbrev pub replayed_traces : {E : Type 0} → List (Filed E) → Traces
+replayed_traces bs = traces_after_all bs (λ group. new_trace)
+
+-- an opening's traces say so of each group, after these records of the rewrite queue and these batches of the append queue
+abbrev pub AreReplayed : {E : Type 0} → ℕ → List (List (Item E)) → List (Filed E) → Traces → Type 0
+AreReplayed first records bs opened =
+    let older = content_of records in
+    (group : ℕ) → IsReplayed first (replayed_traces bs group) (opened group) (older group) (after_batches (batches_of bs) older group) (account_after_all bs no_account group)
 
 abbrev pub ReplaysKeep : Type 0 → Type 0
-ReplaysKeep E = (traces opened : Traces) (records : List (List (Item E))) (bs : List (Filed E)) (first : ℕ)
-    → ((group : ℕ) → IsUnmarked (traces group) (content_of records group)) → FilesRise first bs
-    → ((group : ℕ) → IsReplayed first (traces_after_all bs traces group) (opened group) (after_batches (batches_of bs) (content_of records) group) (account_after_all bs no_account group))
+ReplaysKeep E = (opened : Traces) (records : List (List (Item E))) (bs : List (Filed E)) (first : ℕ) → FilesRise first bs → AreReplayed first records bs opened
     → IsKept opened (account_after_all bs no_account) records (after_batches (batches_of bs) (content_of records)) bs
 
 -- ---- the rewrite queue is written anew

@@ -301,7 +301,6 @@ RewritesKeepFiles E = (t : Trace) (older g : GroupContent E) (names : Names) →
 -- ---- what is so of a trace whatever batches come, also those that leave a hole as left-over files are replayed
 
 pub record KnowsRemoved {E : Type 0} (t : Trace) (older g : GroupContent E) (names : Names) : Type 0 where
-  pub past : t.cleaned ≡ false → (i : ℕ) → t.top ≤ i → older.entry i ≡ None
   pub gone : (k : List ℕ) → is_in k t.deleted ≡ true → g.value k ≡ None
   pub all_gone : t.cleaned ≡ false → (k : List ℕ) → g.value k ≡ None → is_in k t.deleted ≡ false → older.value k ≡ None
   pub entries_since : t.cleaned ≡ true → (i : ℕ) → names (index i) ≡ None → g.entry i ≡ None

@@ -3,3 +3,6 @@ pub mod BehindLemmas
 pub mod CleaningLemmas
 pub mod OpenedLemmas
 pub mod WholeLemmas
+pub mod StandingLemmas
+pub mod FoundLemmas
+pub mod MadeLemmas

@@ -228,6 +228,18 @@ impl MemTables {
         }
     }
 
+    /// The greatest index that an entry of a group ever had since the group was last cleaned, also
+    /// where it isn't there any more (own). None, if it never had one.
+    #[tactic(auto, unfolding(crate::specs::MemTables::reach_in, crate::specs::MemTable::reached_in))]
+    pub fn reached(&self, raft_group_id: u64) -> Option<u64>
+        ensures { result ≡ reach_in self.now raft_group_id }
+    {
+        match self.tables.get(&raft_group_id) {
+            None => None,
+            Some(table) => table.reached(),
+        }
+    }
+
     /// Whether a group has an entry between two indexes.
     pub(crate) fn holds_within(&self, raft_group_id: u64, first: u64, last: Option<u64>) -> bool
         ensures yes { OnTrue result (HasWithin (content_in self.now raft_group_id).entry first last) }

@@ -1,2 +1,4 @@
 pub mod PlaceLemmas
 pub mod TraceLemmas
+pub mod OpenedLemmas
+pub mod ReplayedLemmas

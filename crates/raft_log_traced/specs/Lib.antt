@@ -1,2 +1,3 @@
 pub mod Places
 pub mod Traced
+pub mod Opened

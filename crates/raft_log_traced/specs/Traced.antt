@@ -1,11 +1,14 @@
 -- Memtables with traces, of the batches that an opening finds.
-use Rattle.std.specs.Prelude.{ℕ, List, [], ◌∷◌, Option, Some, None}
+use Rattle.std.specs.Prelude.{◌≡◌, ℕ, List, [], ◌∷◌, map, Option, Some, None}
+use Rattle.std.specs.List.{AllByRecursion}
 use Rattle.raft_log_records.specs.declared.item.EntryIndex.{EntryIndex}
 use Rattle.raft_log_records.specs.declared.file_id.FileBlockHandle.{FileBlockHandle}
 use Rattle.raft_log_records.specs.declared.file_id.LogQueue.{LogQueue}
 use Rattle.raft_log_records.specs.declared.file_id.LogQueue.TheVariants.{Append, Rewrite}
 use Rattle.raft_log_records.specs.Item.{Item}
 use Rattle.raft_log_covers.specs.Kept.{Traces, new_trace, traces_after}
+use Rattle.raft_log_covers.specs.Queues.{Filed}
+use Rattle.raft_log_memtables.specs.MemTable.{items_in}
 use Rattle.raft_log_recovery.specs.Replay.{Placed}
 use Rattle.raft_log_replay.specs.Batches.{HasReplayed}
 use Rattle.raft_log_traces.specs.Alike.{AreAlike}
@@ -35,6 +38,13 @@ abbrev pub file_by : Option FileBlockHandle → Option ℕ
 file_by None = None
 file_by (Some handle) = file_on handle.id.queue handle.id.seq
 
-abbrev pub file_at : Option EntryIndex → Option ℕ
-file_at None = None
-file_at (Some e) = file_by e.entries
+abbrev pub lies_in : EntryIndex → Option ℕ
+lies_in e = file_by e.entries
+
+-- batches with the numbers of their files, and the places of their entries
+abbrev pub filed_in : List Placed → List (Filed EntryIndex)
+filed_in placed = map (λ p. record { file = p.handle.id.seq; items = items_in p.handle p.items }) placed
+
+-- they were read from the files of this queue
+abbrev pub AreOf : LogQueue → List Placed → Type 0
+AreOf queue placed = AllByRecursion (λ p. p.handle.id.queue ≡ queue) placed

@@ -2,6 +2,7 @@
 //! and as an opening makes them.
 #![tactic(auto)]
 
+mod opened;
 mod places;
 mod traced;
 

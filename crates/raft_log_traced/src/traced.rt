@@ -1,18 +1,23 @@
 //! Memtables with the traces of their groups.
 
-ghost use Rattle.std.specs.Prelude.{◌≡◌, ℕ, List, None, IfOk, OnOk};
+ghost use Rattle.std.specs.Prelude.{◌≡◌, ◌++◌, ℕ, List, None, IfOk, OnOk};
+ghost use Rattle.raft_log_covers.specs.Cells.{AreUnmarked};
 ghost use Rattle.raft_log_covers.specs.Kept.{new_trace, traces_after};
+ghost use Rattle.raft_log_covers.specs.Queues.{FilesRise, batches_of};
+ghost use Rattle.raft_log_marks.specs.Standing.{CanBeCleaned};
 ghost use Rattle.raft_log_memtables.specs.Content.{after_batch, nothing, reach_after_batch};
 ghost use Rattle.raft_log_memtables.specs.MemTable.{batch_items};
 ghost use Rattle.raft_log_memtables.specs.MemTables.{content_in, reach_in};
 ghost use Rattle.raft_log_records.specs.Item.{items_of};
 ghost use Rattle.raft_log_recovery.specs.Replay.{Placed};
-ghost use Rattle.raft_log_replay.specs.Batches.{content_over, reach_over};
+ghost use Rattle.raft_log_records.specs.declared.file_id.LogQueue.TheVariants.{Append, Rewrite};
+ghost use Rattle.raft_log_replay.specs.Batches.{content_over, reach_over, records_in};
 ghost use Rattle.raft_log_traced.specs.Places.{items_moved};
-ghost use Rattle.raft_log_traced.specs.Traced.{IsReplayedTraced, file_at};
+ghost use Rattle.raft_log_traced.specs.Traced.{AreOf, IsReplayedTraced, filed_in};
 ghost use Rattle.raft_log_traces.specs.Alike.{AreAlike};
 ghost use Rattle.raft_log_traces.specs.GroupTraces.{traces_in};
 
+use crate::opened::{set_entries, set_removals};
 use crate::places::set_places;
 use raft_log_files::Error;
 use raft_log_memtables::MemTables;
@@ -96,67 +101,21 @@ impl NewMachine for TracedReplay {
     }
 }
 
-/// The ends of a group's entries, and one past the greatest index that they ever had.
-fn ends_of(tables: &MemTables, group: u64) -> (u128, u128, u128) {
-    let top = match tables.get_table(group) {
-        Some(table) => match table.reached() {
-            Some(most) => most as u128 + 1,
-            None => 0,
-        },
-        None => 0,
-    };
-    match (tables.first_index(group), tables.last_index(group)) {
-        (Some(first), Some(last)) => (first as u128, last as u128 + 1, top),
-        _ => (top, top, top),
-    }
-}
-
-/// The append file of an entry. None: it stands in the rewrite queue, or isn't there.
-fn file_of(tables: &MemTables, group: u64, index: u64) -> Option<FileSeq>
-    ensures { result ≡ file_at ((content_in tables.now group).entry index) }
-{
-    let handle = tables.get_entry(group, index)?.entries?;
-    match handle.id.queue {
-        LogQueue::Append => Some(handle.id.seq),
-        LogQueue::Rewrite => None,
-    }
-}
-
-/// The files of a group's entries are those in which they lie.
-fn set_files(traces: &mut GroupTraces, tables: &MemTables, group: u64) -> Result<(), AllocError> {
-    let (Some(first), Some(last)) = (tables.first_index(group), tables.last_index(group)) else {
-        return Ok(());
-    };
-    let mut before = None;
-    for index in first..=last {
-        let file = file_of(tables, group, index);
-        if let Some(file) = file {
-            if before != Some(file) {
-                traces.set_file(group, index as u128, file)?;
-            }
-        }
-        before = file;
-    }
-    Ok(())
-}
-
 impl TracedReplay {
     /// The tables and traces of the batches that were replayed, where this is the first append file.
-    /// The only error is want of memory.
+    /// By them the queues can be cleaned, whatever files were left over, if no batch of the append
+    /// queue is of an atomic group. The only error is want of memory.
     pub fn finish(self, first: FileSeq) -> Result<TracedTables, AllocError>
         ensures content { (placed : List Placed) → IsReplayedTraced self placed → IfOk result (λ log. content_in log.tables ≡ content_over nothing placed) }
         ensures reach { (placed : List Placed) → IsReplayedTraced self placed → IfOk result (λ log. reach_in log.tables ≡ reach_over (λ group. None) placed) }
+        ensures cleanable { (rewrites : List Placed) (appends : List Placed) → IsReplayedTraced self (rewrites ++ appends) → AreOf Rewrite rewrites → AreOf Append appends
+            → FilesRise first (filed_in appends) → AreUnmarked (batches_of (filed_in appends))
+            → IfOk result (λ log. CanBeCleaned first (traces_in log.traces) (records_in rewrites) (content_in log.tables) (filed_in appends)) }
     {
         let tables = self.replayed.finish();
         let mut traces = self.traces;
-        for group in traces.groups()? {
-            traces.set_since(group, first)?;
-        }
-        for group in tables.groups()? {
-            let (low, next, top) = ends_of(&tables, group);
-            traces.set_ends(group, low, next, top)?;
-            set_files(&mut traces, &tables, group)?;
-        }
+        set_removals(&mut traces, first)?;
+        set_entries(&mut traces, &tables)?;
         Ok(TracedTables { tables, traces })
     }
 }

@@ -1,0 +1,13 @@
+use Rattle.std.proofs.Common.{◌++◌}
+use Rattle.raft_log_memtables.specs.MemTables.{content_in, reach_in}
+use Rattle.raft_log_traces.specs.GroupTraces.{traces_in}
+use Rattle.raft_log_traced.proofs.ReplayedLemmas.{cleaned_by_traces}
+use Rattle.raft_log_traced.proofs.traced.TracedReplay.finish.Goals as goal
+
+pub returns-clause-cleanable : goal.returns-clause-cleanable
+returns-clause-cleanable c = λ rewrites appends has of_rewrite of_append rise unmarked.
+    let tables = c.finish-tables.result in
+    let removed = c.in_ok-set_removals.ensures in
+    cleaned_by_traces c.args.first rewrites appends removed.0 (traces_in c.args.self.traces) (traces_in c.set_removals.new.traces) (traces_in c.set_entries.new.traces) (content_in tables) (reach_in tables)
+    of_rewrite of_append rise unmarked (c.finish-tables.ensures.content (rewrites ++ appends) has.tables) (c.finish-tables.ensures.reach (rewrites ++ appends) has.tables) has.traces
+    removed.1 removed.2 c.in_ok-set_entries.ensures.there c.in_ok-set_entries.ensures.gone
