@@ -23,7 +23,7 @@ plain_change (put key value) o h = refl
 plain_change (delete key) o h = refl
 plain_change (mark id status) o h = absurd (false≢true (sym h))
 
-unmarked : (items : Batch) → list_any holds_mark items ≡ false → mark_of items ≡ None
+pub unmarked : (items : Batch) → list_any holds_mark items ≡ false → mark_of items ≡ None
 unmarked [] h = refl
 unmarked (item ∷ items) h =
     let both = or_parts (is_mark item.change) (list_any holds_mark items) h in

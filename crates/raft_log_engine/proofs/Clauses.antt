@@ -34,6 +34,8 @@ use Rattle.raft_log_engine.proofs.Appended.{all_more, both_parts, more_leaves}
 use Rattle.raft_log_engine.proofs.Settled.{settled_more}
 use Rattle.raft_log_blocks.proofs.HeldLemmas.{answered, held_answered, held_kept, kept_held}
 use Rattle.raft_log_engine.proofs.Tables.{more_content, more_tabled}
+use Rattle.raft_log_engine.proofs.Traced.{IsNoted, more_traced}
+use Rattle.raft_log_traces.specs.declared.group_traces.GroupTraces.{GroupTraces}
 
 abbrev Seen : Type 0
 Seen = Content (List ℕ)
@@ -234,16 +236,20 @@ module _ {F : Type 0} (disk : F → Disk) (old : Parts F) where
           none = λ all. m.none (none all).0;
         }
 
-    -- the blocks that are kept stay what they are
-    pub done_blocks : (cache : BlockCache) → HoldsBlocks (disk old.files) old.pipes old.tables old.wrote_unsynced cache → (wrote_unsynced : Bool) → (wrote_unsynced ≡ false → (sync ≡ true) × (old.wrote_unsynced ≡ false))
-        → HoldsBlocks (disk files) p tables wrote_unsynced cache
-    done_blocks cache held wrote_unsynced none =
+    -- the blocks that are kept stay what they are, and the files may be cleaned by the traces of all batches
+    pub done_blocks : (traces others : GroupTraces) (cache : BlockCache) → HoldsBlocks (disk old.files) old.pipes (record { tables = old.tables; traces = traces }) old.wrote_unsynced cache
+        → IsNoted traces others old.tables h items → (wrote_unsynced : Bool) → (wrote_unsynced ≡ false → (sync ≡ true) × (old.wrote_unsynced ≡ false))
+        → HoldsBlocks (disk files) p (record { tables = tables; traces = others }) wrote_unsynced cache
+    done_blocks traces others cache held noted wrote_unsynced none =
         let b = held.batches in
+        let l : Numbered = b.unsynced ++ (h.id.seq, items) ∷ [] in
         let m = is.puts b.synced b.unsynced b.held.append in
-        let split = append_assoc b.synced b.unsynced ((h.id.seq, items) ∷ []) ∙ sym (both_parts m.count b.synced (b.unsynced ++ (h.id.seq, items) ∷ [])) in
+        let split = append_assoc b.synced b.unsynced ((h.id.seq, items) ∷ []) ∙ sym (both_parts m.count b.synced l) in
         record {
           batches = done_batches b wrote_unsynced none;
           blocks = λ at bytes kept. settled_more old.pipes p b.rewrites (b.synced ++ b.unsynced) _ h.id.seq items is.other.same is.keeps split at bytes (held.blocks at bytes kept);
+          traces = more_traced old.pipes p (disk files) traces others old.tables b.rewrites (b.synced ++ b.unsynced)
+              (b.synced ++ take m.count l) (drop m.count l) h items b.held.pipes.append.numbers is.pipes.append.numbers is.keeps (is.stands b.synced b.unsynced b.held.append) m.holds (sym split) b.held.tabled.lengths noted held.traces;
         }
 
     pub done_seen : HeldBy → seen_on (disk files) p tables ≡ after_batch items (answers_on disk old)

@@ -1,11 +1,15 @@
 pub mod Appended
 pub mod Batches
+pub mod Rising
+pub mod Runs
+pub mod Traced
 pub mod CacheLemmas
 pub mod Fetched
 pub mod Fresh
 pub mod Clauses
 pub mod Logs
 pub mod Opened
+pub mod OpenedTraces
 mod Seen
 pub mod Tables
 pub mod Settled

@@ -39,15 +39,17 @@ use Rattle.raft_log_recovery.specs.Replay.{Placed}
 use Rattle.raft_log_replay.specs.Batches.{content_over, records_in}
 use Rattle.raft_log_engine.specs.Opening.{AreFoundIn, IsFoundAgain, IsRecoveredAs, LeavesFound}
 use Rattle.raft_log_blocks.specs.Held.{IsTabled, LiesIn}
+use Rattle.raft_log_traced.specs.declared.traced.TracedTables.{TracedTables}
+use Rattle.raft_log_engine.specs.Traced.{IsTraced}
 use Rattle.raft_log_engine.proofs.Again.{made_sound}
 use Rattle.raft_log_engine.proofs.Tables.{put_lengths}
 
 -- a machine got a batch of the file
-abbrev GotAs : {X : Type 0} → SinglePipe → Numbered → (EntryIndex → X) → (Batch → List (Item X)) → Type 0
+abbrev pub GotAs : {X : Type 0} → SinglePipe → Numbered → (EntryIndex → X) → (Batch → List (Item X)) → Type 0
 GotAs p bs f out = (file : File) (before after : Numbered) (items : Batch) (placed : Placed) → IsIn file (files_of p) → bs ≡ before ++ (file.seq, items) ∷ after → IsGot p.queue file before items placed
     → map (item_map f) (items_in placed.handle placed.items) ≡ out items
 
-abbrev seen : {X : Type 0} → (EntryIndex → X) → List Placed → List (List (Item X))
+abbrev pub seen : {X : Type 0} → (EntryIndex → X) → List Placed → List (List (Item X))
 seen f all = map (λ (items : List (Item EntryIndex)). map (item_map f) items) (records_in all)
 
 seen_append : {X : Type 0} (f : EntryIndex → X) (first rest : List Placed) → seen f (first ++ rest) ≡ seen f first ++ seen f rest
@@ -83,7 +85,7 @@ module _ {X : Type 0} (p : SinglePipe) (bs : Numbered) (f : EntryIndex → X) (o
       ∙ sym (map-append (λ (b : ℕ × Batch). out b.1) (numbered file.seq ks) behind ∙ ap (λ (l : List (List (Item X))). l ++ map (λ (b : ℕ × Batch). out b.1) behind) (sym (outs file.seq ks)))
 
 -- by their bytes
-seen_bytes : (p : SinglePipe) (bs : Numbered) (read : EntryIndex → List ℕ) → ((e : EntryIndex) (bytes : List ℕ) → LiesIn p bs e bytes → read e ≡ bytes) → GotAs p bs read (λ items. items)
+pub seen_bytes : (p : SinglePipe) (bs : Numbered) (read : EntryIndex → List ℕ) → ((e : EntryIndex) (bytes : List ℕ) → LiesIn p bs e bytes → read e ≡ bytes) → GotAs p bs read (λ items. items)
 seen_bytes p bs read reads f before after items placed among split got =
     let some : list_any holds_entries placed.items ≡ list_any holds_entries items = sym (any_held (entry_bytes (block_of items)) placed.items) ∙ ap (list_any holds_entries) got.items_are in
     items_seen read placed.handle (block_of items) placed.items
@@ -195,9 +197,10 @@ module _ (b : DualPipesBuilder) (mode : RecoveryMode) (said : List Text) (at : d
     reads = refl;
   }
 
-  pub recovered_as : (new : Disk) (p : DualPipes) (all : List Placed) (tables : MemTables) → IsFoundBy b Append made → IsFoundBy b Rewrite made → ((queue : LogQueue) → CantBeOpened b.config.recovery_mode b queue made → ⊥)
-      → ArePipes p new → ArePipesWith b made new p all → content_in tables ≡ content_over nothing all → IsRecoveredAs mode said d new p tables
-  recovered_as new p all tables append rewrite none pipes w content = record {
+  pub recovered_as : (new : Disk) (p : DualPipes) (all : List Placed) (traced : TracedTables) → IsFoundBy b Append made → IsFoundBy b Rewrite made → ((queue : LogQueue) → CantBeOpened b.config.recovery_mode b queue made → ⊥)
+      → ArePipes p new → (w : ArePipesWith b made new p all) → content_in traced.tables ≡ content_over nothing all
+      → IsTraced p traced.traces (batches_of Rewrite made w.rewrite.files) (batches_of Append made w.append.files) → IsRecoveredAs mode said d new p traced
+  recovered_as new p all traced append rewrite none pipes w content traces = record {
     rewrites = batches_of Rewrite made w.rewrite.files;
     appends = batches_of Append made w.append.files;
     rewrite = sound Rewrite new p.rewrite w.rewrites rewrite (none Rewrite) w.rewrite;
@@ -206,11 +209,12 @@ module _ (b : DualPipesBuilder) (mode : RecoveryMode) (said : List Text) (at : d
       pipes = pipes;
       rewrite = w.rewrite.pipe.holds;
       append = w.append.pipe.holds;
-      tabled = subst (λ (x : LogQueue). IsTabled p (batches_of x made w.rewrite.files) (batches_of Append made w.append.files) tables) p.rewrites
-          (subst (λ (x : LogQueue). IsTabled p (batches_of p.rewrite.queue made w.rewrite.files) (batches_of x made w.append.files) tables) p.appends
-          (found_tabled made p w.rewrite.files w.append.files w.rewrites w.appends tables w.rewrite.pipe.among w.append.pipe.among
+      tabled = subst (λ (x : LogQueue). IsTabled p (batches_of x made w.rewrite.files) (batches_of Append made w.append.files) traced.tables) p.rewrites
+          (subst (λ (x : LogQueue). IsTabled p (batches_of p.rewrite.queue made w.rewrite.files) (batches_of x made w.append.files) traced.tables) p.appends
+          (found_tabled made p w.rewrite.files w.append.files w.rewrites w.appends traced.tables w.rewrite.pipe.among w.append.pipe.among
           (subst (λ (x : LogQueue). AreAllGot x made [] w.rewrite.files w.rewrites) (sym p.rewrites) w.rewrite.got)
           (subst (λ (x : LogQueue). AreAllGot x made [] w.append.files w.appends) (sym p.appends) w.append.got)
           (content ∙ ap (content_over nothing) w.all_are)));
     };
+    traces = traces;
   }

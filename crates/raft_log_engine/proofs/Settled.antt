@@ -18,6 +18,7 @@ use Rattle.raft_log_pipes.specs.declared.pipes.DualPipes.{DualPipes}
 use Rattle.raft_log_memtables.specs.declared.memtables.MemTables.{MemTables}
 use Rattle.raft_log_memtables.specs.ContentLaws.{content_map}
 use Rattle.raft_log_memtables.specs.MemTables.{content_in}
+use Rattle.raft_log_traced.specs.declared.traced.TracedTables.{TracedTables}
 use Rattle.raft_log_engine.specs.declared.block_cache.BlockCache.{BlockCache}
 use Rattle.raft_log_blocks.specs.Blocks.{IsReadAs, block_on}
 use Rattle.raft_log_blocks.specs.Held.{ReadsBlocks}
@@ -110,17 +111,17 @@ settled_still p q r bs more same keeps is h b settled read reads =
 
 -- ---- an engine's blocks
 
-module _ (d : Disk) (p : DualPipes) (tables : MemTables) (wrote_unsynced : Bool) (cache : BlockCache) (held : HoldsBlocks d p tables wrote_unsynced cache) where
+module _ (d : Disk) (p : DualPipes) (traced : TracedTables) (wrote_unsynced : Bool) (cache : BlockCache) (held : HoldsBlocks d p traced wrote_unsynced cache) where
   pub blocks_read : AreRead d p cache
-  blocks_read h b kept = settled_read d p tables held.batches.rewrites held.batches.synced held.batches.unsynced held.batches.held h b (held.blocks h b kept)
+  blocks_read h b kept = settled_read d p traced.tables held.batches.rewrites held.batches.synced held.batches.unsynced held.batches.held h b (held.blocks h b kept)
 
   -- those of entries of the tables are kept more
-  pub blocks_more : (new : BlockCache) (IsAsked : EntryIndex → Type 0) → ((e : EntryIndex) → IsAsked e → (group : ℕ) × ((index : ℕ) × ((content_in tables group).entry index ≡ Some e))) → KeepsMore d p IsAsked cache new
-      → HoldsBlocks d p tables wrote_unsynced new
-  blocks_more new IsAsked asked more = record { batches = held.batches; blocks = λ h b kept. of h b (more h b kept) }
+  pub blocks_more : (new : BlockCache) (IsAsked : EntryIndex → Type 0) → ((e : EntryIndex) → IsAsked e → (group : ℕ) × ((index : ℕ) × ((content_in traced.tables group).entry index ≡ Some e))) → KeepsMore d p IsAsked cache new
+      → HoldsBlocks d p traced wrote_unsynced new
+  blocks_more new IsAsked asked more = record { batches = held.batches; blocks = λ h b kept. of h b (more h b kept); traces = held.traces }
     where
       of : (h : FileBlockHandle) (b : List ℕ) → Keeps cache h b ⊎ ((e : EntryIndex) × IsAsked e × (e.entries ≡ Some h) × IsReadAs d p h b) → IsSettled p held.batches.rewrites (held.batches.synced ++ held.batches.unsynced) h b
       of h b (inl was) = held.blocks h b was
       of h b (inr read) =
           let there = asked read.0 read.1 in
-          read_settled d p tables held.batches.rewrites held.batches.synced held.batches.unsynced held.batches.held there.0 there.1.0 read.0 h b there.1.1 read.2 read.3
+          read_settled d p traced.tables held.batches.rewrites held.batches.synced held.batches.unsynced held.batches.held there.0 there.1.0 read.0 h b there.1.1 read.2 read.3

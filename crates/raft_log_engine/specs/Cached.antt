@@ -8,11 +8,12 @@ use Rattle.raft_log_records.specs.Spelling.{block_of}
 use Rattle.raft_log_disk.specs.Disk.{Disk}
 use Rattle.raft_log_pipe.specs.Pipe.{Numbered}
 use Rattle.raft_log_pipes.specs.declared.pipes.DualPipes.{DualPipes}
-use Rattle.raft_log_memtables.specs.declared.memtables.MemTables.{MemTables}
+use Rattle.raft_log_traced.specs.declared.traced.TracedTables.{TracedTables}
 use Rattle.raft_log_engine.specs.declared.block_cache.BlockCache.{BlockCache}
 use Rattle.raft_log_engine.specs.declared.block_cache.BlockKey.{BlockKey}
 use Rattle.raft_log_blocks.specs.Blocks.{IsReadAs}
 use Rattle.raft_log_blocks.specs.Held.{ReadsBlocks, HoldsBatches, LiesIn}
+use Rattle.raft_log_engine.specs.Traced.{IsTraced}
 
 abbrev pub KeepsIn : Option (LruCache BlockKey (Vec ℕ Global)) → FileBlockHandle → List ℕ → Type 0
 KeepsIn None handle entries = ⊥
@@ -37,10 +38,11 @@ KeepsMore d p IsAsked old new = (handle : FileBlockHandle) (entries : List ℕ) 
 abbrev pub IsSettled : DualPipes → Numbered → Numbered → FileBlockHandle → List ℕ → Type 0
 IsSettled p rewrites appends handle entries = (read : FileBlockHandle → List ℕ) → ReadsBlocks p rewrites appends read → read handle ≡ entries
 
--- the engine holds batches, and keeps blocks of them
-pub record HoldsBlocks (d : Disk) (p : DualPipes) (tables : MemTables) (wrote_unsynced : Bool) (cache : BlockCache) : Type 0 where
-  pub batches : HoldsBatches d p tables wrote_unsynced
+-- the engine holds batches, keeps blocks of them, and traces of the groups in them
+pub record HoldsBlocks (d : Disk) (p : DualPipes) (traced : TracedTables) (wrote_unsynced : Bool) (cache : BlockCache) : Type 0 where
+  pub batches : HoldsBatches d p traced.tables wrote_unsynced
   pub blocks : (handle : FileBlockHandle) (entries : List ℕ) → Keeps cache handle entries → IsSettled p batches.rewrites (batches.synced ++ batches.unsynced) handle entries
+  pub traces : IsTraced p traced.traces batches.rewrites (batches.synced ++ batches.unsynced)
 
-abbrev pub IsEngine : Disk → DualPipes → MemTables → Bool → Bool → BlockCache → Type 0
-IsEngine d p tables is_stopped wrote_unsynced cache = is_stopped ≡ false → HoldsBlocks d p tables wrote_unsynced cache
+abbrev pub IsEngine : Disk → DualPipes → TracedTables → Bool → Bool → BlockCache → Type 0
+IsEngine d p traced is_stopped wrote_unsynced cache = is_stopped ≡ false → HoldsBlocks d p traced wrote_unsynced cache

@@ -1,3 +1,4 @@
+pub mod Traced
 pub mod Cached
 pub mod Parts
 pub mod Left

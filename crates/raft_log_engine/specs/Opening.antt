@@ -11,7 +11,7 @@ use Rattle.raft_log_pipe.specs.declared.pipe.SinglePipe.{SinglePipe}
 use Rattle.raft_log_pipe.specs.Pipe.{Numbered}
 use Rattle.raft_log_pipes.specs.declared.pipes.DualPipes.{DualPipes}
 use Rattle.raft_log_pipes.specs.Pipes.{pipe_of}
-use Rattle.raft_log_memtables.specs.declared.memtables.MemTables.{MemTables}
+use Rattle.raft_log_traced.specs.declared.traced.TracedTables.{TracedTables}
 use Rattle.raft_log_memtables.specs.Content.{Content}
 use Rattle.raft_log_recovery.specs.declared.scan.FileKind.TheVariants.{Log}
 use Rattle.raft_log_recovery.specs.declared.scan.FileName.{FileName}
@@ -22,6 +22,7 @@ use Rattle.raft_log_recovery.specs.Opening.{AnyAligned}
 use Rattle.raft_log_recovery.specs.Queue.{AnyRefused}
 use Rattle.raft_log_recovery.specs.Scan.{AreFound, OnlyMakes}
 use Rattle.raft_log_blocks.specs.Held.{IsKept, content_of_batches}
+use Rattle.raft_log_engine.specs.Traced.{IsTraced}
 
 -- The content of the batches that the files of each queue read as, up to the first fault of each file: those of the rewrite
 -- queue, then those of the append queue. No file has a fault that the mode refuses
@@ -78,10 +79,11 @@ AreSetAs settings p = IsSetAs settings p.append × IsSetAs settings p.rewrite
 abbrev pub HasHolesIn : RecoveryMode → Disk → DualPipes → Type 0
 HasHolesIn mode d p = (queue : LogQueue) → HasHole (pipe_of p queue) d → mode ≡ TolerateAnyCorruption
 
--- the pipes hold just those batches, and the tables have their content
-pub record IsRecoveredAs (mode : RecoveryMode) (directories : List Text) (d new : Disk) (p : DualPipes) (tables : MemTables) : Type 0 where
+-- the pipes hold just those batches, the tables have their content, and the traces are of them
+pub record IsRecoveredAs (mode : RecoveryMode) (directories : List Text) (d new : Disk) (p : DualPipes) (traced : TracedTables) : Type 0 where
   pub rewrites : Numbered
   pub appends : Numbered
   pub rewrite : FindsSound mode directories Rewrite d rewrites
   pub append : FindsSound mode directories Append d appends
-  pub kept : IsKept new p tables rewrites appends
+  pub kept : IsKept new p traced.tables rewrites appends
+  pub traces : IsTraced p traced.traces rewrites appends

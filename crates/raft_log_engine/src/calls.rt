@@ -81,7 +81,7 @@ impl<F: FileSystem + Drop> Engine<F> {
             }
             return Ok(0);
         }
-        let len = prepare(&self.tables, batch)?;
+        let len = prepare(&self.traced.tables, batch)?;
         let block = batch.entries_block();
         let written = match append_batch(&mut self.files, &mut self.pipes, batch, sync) {
             Ok(written) => written,
@@ -91,7 +91,7 @@ impl<F: FileSystem + Drop> Engine<F> {
             }
         };
         let items = batch.drain();
-        if let Err(fault) = apply(&mut self.tables, items, block, written) {
+        if let Err(fault) = apply(&mut self.traced, items, block, written) {
             self.is_stopped = true;
             return Err(fault);
         }
@@ -152,7 +152,7 @@ impl<F: FileSystem + Drop> Engine<F> {
         if self.is_stopped {
             return Err(EngineFault::Stopped);
         }
-        match self.tables.get(group, key) {
+        match self.traced.tables.get(group, key) {
             Some(value) => Ok(Some(Vec::from_slice(self.alloc, value)?)),
             None => Ok(None),
         }
@@ -178,7 +178,11 @@ impl<F: FileSystem + Drop> Engine<F> {
         if self.is_stopped {
             return Err(EngineFault::Stopped);
         }
-        let places = match self.tables.fetch_entries_to(group, begin, end, max_size) {
+        let places = match self
+            .traced
+            .tables
+            .fetch_entries_to(group, begin, end, max_size)
+        {
             Ok(places) => places,
             Err(error) => return Err(fault_of(error)),
         };
@@ -200,6 +204,6 @@ impl<F: FileSystem + Drop> Engine<F> {
         if self.is_stopped {
             return Err(EngineFault::Stopped);
         }
-        Ok(self.tables.has_group(group))
+        Ok(self.traced.tables.has_group(group))
     }
 }

@@ -68,7 +68,7 @@ impl<F: FileSystem + Drop> Engine<F> {
             return Err(EngineFault::Stopped);
         }
         let mut batch = compaction_of(self.alloc, group, index)?;
-        let count = self.tables.count_before(group, index);
+        let count = self.traced.tables.count_before(group, index);
         self.write(&mut batch, true)?;
         Ok(count)
     }

@@ -2,8 +2,8 @@
 
 use crate::block_cache::BlockCache;
 use raft_log_files::FileSystem;
-use raft_log_memtables::MemTables;
 use raft_log_pipes::DualPipes;
+use raft_log_traced::TracedTables;
 use std::alloc::Global;
 use std::marker::Model;
 
@@ -15,7 +15,8 @@ pub struct Engine<F: FileSystem> {
     pub(crate) alloc: Global,
     pub(crate) files: F,
     pub(crate) pipes: DualPipes,
-    pub(crate) tables: MemTables,
+    /// Where entries lie and which values keys have, and what is kept of each group for cleaning.
+    pub(crate) traced: TracedTables,
     /// A write failed.
     pub(crate) is_stopped: bool,
     /// A write wasn't synced, since the engine was opened.
@@ -34,7 +35,7 @@ impl<F: FileSystem> Model for Engine<F> {
 
     ghost coded = { Prim.hlevel (codes, the_row.coded) };
 
-    ghost view = { λ e. record { files = e.files; pipes = e.pipes; tables = e.tables; is_stopped = e.is_stopped; wrote_unsynced = e.wrote_unsynced; block_reads = e.blocks.reads } };
+    ghost view = { λ e. record { files = e.files; pipes = e.pipes; tables = e.traced.tables; is_stopped = e.is_stopped; wrote_unsynced = e.wrote_unsynced; block_reads = e.blocks.reads } };
 
-    ghost invariant = { λ e. IsEngine (F.disk e.files) e.pipes e.tables e.is_stopped e.wrote_unsynced e.blocks };
+    ghost invariant = { λ e. IsEngine (F.disk e.files) e.pipes e.traced e.is_stopped e.wrote_unsynced e.blocks };
 }

@@ -23,11 +23,10 @@ use crate::block_cache::BlockCache;
 use crate::engine::Engine;
 use crate::fault::EngineFault;
 use raft_log_files::{Config, Error, FileSystem};
-use raft_log_memtables::MemTables;
 use raft_log_pipes::DualPipes;
 use raft_log_records::LogQueue;
 use raft_log_recovery::{DefaultMachineFactory, DualPipesBuilder};
-use raft_log_replay::ReplayedTables;
+use raft_log_traced::{TracedReplay, TracedTables};
 use std::alloc::Global;
 
 /// An engine that wasn't opened (own): why, and its files.
@@ -59,12 +58,12 @@ fn sound_settings(mut config: Config) -> Result<Config, Error>
     Ok(config)
 }
 
-/// The pipes over the files that are there, and the tables of their batches.
+/// The pipes over the files that are there, and the tables and traces of their batches.
 fn recovered<F: FileSystem>(
     files: &mut F,
     alloc: Global,
     config: Config,
-) -> Result<(DualPipes, MemTables), EngineFault>
+) -> Result<(DualPipes, TracedTables), EngineFault>
     ensures ok { IfOk result (λ found. IsRecoveredAs config.recovery_mode (directories_of (settings_of config)) (F.disk files.old) (F.disk files.new) found.0 found.1) }
     ensures paths { IfOk result (λ found. directories_of_pipes found.0 ≡ directories_of (settings_of config)) }
     ensures settings { IfOk result (λ found. AreSetAs (settings_of config) found.0) }
@@ -83,10 +82,12 @@ fn recovered<F: FileSystem>(
     let mut builder = DualPipesBuilder::new(alloc, config);
     builder.scan(files)?;
     let factory = DefaultMachineFactory::new(alloc);
-    let (pipes, machine) = builder.recover_alone::<F, ReplayedTables, DefaultMachineFactory>(
+    let (pipes, machine) = builder.recover_alone::<F, TracedReplay, DefaultMachineFactory>(
         files, &factory,
     )?;
-    Ok((pipes, machine.finish()))
+    let (first, _) = pipes.file_span(LogQueue::Append);
+    let traced = machine.finish(first)?;
+    Ok((pipes, traced))
 }
 
 /// The same under sound settings. Unsound ones are refused before any call on the files.
@@ -94,7 +95,7 @@ fn found_soundly<F: FileSystem>(
     files: &mut F,
     alloc: Global,
     config: Config,
-) -> Result<(DualPipes, MemTables), EngineFault>
+) -> Result<(DualPipes, TracedTables), EngineFault>
     ensures ok { IfOk result (λ found. IsRecoveredAs config.recovery_mode (directories_of (settings_of config)) (F.disk files.old) (F.disk files.new) found.0 found.1) }
     ensures paths { IfOk result (λ found. directories_of_pipes found.0 ≡ directories_of (settings_of config)) }
     ensures settings { IfOk result (λ found. AreSetAs (settings_of config) found.0) }
@@ -151,11 +152,11 @@ impl<F: FileSystem + Drop> Engine<F> {
             (F.disk files) (F.disk refused.files) refused.fault) }
     {
         match found_soundly(&mut files, alloc, config) {
-            Ok((pipes, tables)) => Ok(Engine {
+            Ok((pipes, traced)) => Ok(Engine {
                 alloc,
                 files,
                 pipes,
-                tables,
+                traced,
                 is_stopped: false,
                 wrote_unsynced: false,
                 blocks: BlockCache::new(alloc),

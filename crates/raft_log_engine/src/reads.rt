@@ -37,7 +37,7 @@ impl<F: FileSystem + Drop> Engine<F> {
         if self.is_stopped {
             return Err(EngineFault::Stopped);
         }
-        match self.tables.get_entry(group, index) {
+        match self.traced.tables.get_entry(group, index) {
             Some(place) => Ok(Some(copy_of(
                 self.alloc,
                 &self.files,
@@ -59,7 +59,7 @@ impl<F: FileSystem + Drop> Engine<F> {
         if self.is_stopped {
             return Err(EngineFault::Stopped);
         }
-        let Some(value) = self.tables.get(group, key) else {
+        let Some(value) = self.traced.tables.get(group, key) else {
             return Ok(None);
         };
         match S::parse(self.alloc, value)? {
@@ -77,7 +77,7 @@ impl<F: FileSystem + Drop> Engine<F> {
         if self.is_stopped {
             return Err(EngineFault::Stopped);
         }
-        Ok(self.tables.first_index(group))
+        Ok(self.traced.tables.first_index(group))
     }
 
     /// The index of a group's last entry, if it has one (raft-engine's `last_index`).
@@ -89,7 +89,7 @@ impl<F: FileSystem + Drop> Engine<F> {
         if self.is_stopped {
             return Err(EngineFault::Stopped);
         }
-        Ok(self.tables.last_index(group))
+        Ok(self.traced.tables.last_index(group))
     }
 
     /// The ids of the groups that are there, rising, and of no others (raft-engine's `raft_groups`,
@@ -105,7 +105,7 @@ impl<F: FileSystem + Drop> Engine<F> {
         if self.is_stopped {
             return Err(EngineFault::Stopped);
         }
-        Ok(self.tables.groups()?)
+        Ok(self.traced.tables.groups()?)
     }
 
     /// Whether no group is there (raft-engine's `is_empty`).
@@ -117,7 +117,7 @@ impl<F: FileSystem + Drop> Engine<F> {
         if self.is_stopped {
             return Err(EngineFault::Stopped);
         }
-        Ok(self.tables.is_empty())
+        Ok(self.traced.tables.is_empty())
     }
 }
 

@@ -70,7 +70,7 @@ impl<F: FileSystem + Drop> Engine<F> {
         if self.is_stopped {
             return Err(EngineFault::Stopped);
         }
-        let pairs = self.tables.scan(group, start, end, reverse)?;
+        let pairs = self.traced.tables.scan(group, start, end, reverse)?;
         visit(callback, &pairs);
         Ok(())
     }
@@ -94,7 +94,7 @@ impl<F: FileSystem + Drop> Engine<F> {
         if self.is_stopped {
             return Err(EngineFault::Stopped);
         }
-        let pairs = self.tables.scan(group, start, end, reverse)?;
+        let pairs = self.traced.tables.scan(group, start, end, reverse)?;
         visit_messages(self.alloc, callback, &pairs)?;
         Ok(())
     }

@@ -6,3 +6,4 @@ pub mod WholeLemmas
 pub mod StandingLemmas
 pub mod FoundLemmas
 pub mod MadeLemmas
+pub mod MappedLemmas

@@ -4,3 +4,4 @@ pub mod Cleaning
 pub mod Whole
 pub mod Standing
 pub mod Opened
+pub mod Mapped

@@ -2,10 +2,12 @@
 #![tactic(auto)]
 
 mod laws;
+mod mapped;
 mod marks;
 
 pub use laws::{
     cleaned_queues_stand, entries_have_files_behind_them, files_before_the_least_may_go,
     marks_keep_queues, opened_queues_are_cleanable, queues_stay_cleanable, taken_changes_go_on,
 };
+pub use mapped::entries_may_be_seen_otherwise;
 pub use marks::{MarkError, add_marks};

@@ -1,5 +1,5 @@
 -- What the files read as is what the pipes hold and the tables have; a refusal leaves it.
-use Rattle.std.proofs.Common.{List, Err, ap, sym, subst, ◌∙◌, inl, inr}
+use Rattle.std.proofs.Common.{ℕ, List, [], Err, ap, sym, subst, ◌∙◌, inl, inr}
 use Rattle.std.proofs.lemmas.Bool.{false≢true}
 use Rattle.raft_log_disk.proofs.CauseLemmas.{at_err}
 use Rattle.raft_log_disk.specs.Text.{Text}
@@ -12,6 +12,9 @@ use Rattle.raft_log_recovery.specs.Scan.{AreFound, OnlyMakes, directories_of}
 use Rattle.raft_log_engine.specs.Opening.{IsFoundAgain, IsLeftByOpening}
 use Rattle.raft_log_engine.proofs.Again.{made_again}
 use Rattle.raft_log_engine.proofs.Opened.{both_again, both_left, recovered_as}
+use Rattle.raft_log_recovery.specs.Replay.{Placed}
+use Rattle.raft_log_traced.specs.Traced.{IsReplayedTraced}
+use Rattle.raft_log_engine.proofs.OpenedTraces.{MayBeTraced, all_queue, recovered_traced}
 use Rattle.raft_log_engine.proofs.Reopened.{once_there}
 use Rattle.raft_log_files.specs.declared.error.CorruptionFault.{CorruptionFault}
 use Rattle.raft_log_files.specs.declared.error.Error.{Error}
@@ -26,7 +29,8 @@ use Rattle.raft_log_pipe.proofs.CausedLemmas.{told_cause}
 use Rattle.raft_log_recovery.specs.Scan.{AllMade}
 use Rattle.raft_log_engine.specs.declared.fault.EngineFault.{EngineFault}
 use Rattle.raft_log_engine.specs.declared.fault.EngineFault.TheVariants as fault
-use Rattle.raft_log_engine.specs.Unopened.{IsOpeningFault}
+use Rattle.raft_log_files.specs.declared.error.Error.TheVariants.{Memory}
+use Rattle.raft_log_engine.specs.Unopened.{IsOpeningFault, IsUnopenable}
 use Rattle.raft_log_engine.proofs.Unopened.{both_cause, free_opening, scan_cause}
 use Rattle.raft_log_engine.proofs.opening.recovered.Goals as goal
 
@@ -77,6 +81,34 @@ returns-in_err-pipes-clause-reads g c =
     at_err c.from_residual-in_err-pipes.result (IsFoundAgain c.args.config.recovery_mode said d new)
     (both_again b c.args.config.recovery_mode said at alike d made makes new c.recover_alone.ensures.leaves)
 
+pub returns-in_err-traced-clause-err : goal.returns-in_err-traced-clause-err
+returns-in_err-traced-clause-err g c =
+    let said = directories_of (settings_of c.args.config) in
+    let d = g.F.FileSystem.disk c.args.files.now in
+    let b = c.scan.new.self in
+    let made = g.F.FileSystem.disk c.scan.new.files in
+    let new = g.F.FileSystem.disk c.recover_alone.new.files in
+    let at = c.in_ok-scan.ensures.directories ∙ ap (λ (k : Config). directories_of (settings_of k)) c.new-builder.ensures.config in
+    let alike = ap (λ (k : Config). k.recovery_mode) (c.in_ok-scan.ensures.config ∙ c.new-builder.ensures.config) in
+    let makes = subst (λ (k : Config). OnlyMakes (directories_of (settings_of k)) d made) c.new-builder.ensures.config c.in_ok-scan.ensures.only in
+    let append = subst (λ (l : List Text). AreFound made (Log Append) l (names_in b Append)) (sym c.in_ok-scan.ensures.directories) c.in_ok-scan.ensures.append in
+    let rewrite = subst (λ (l : List Text). AreFound made (Log Rewrite) l (names_in b Rewrite)) (sym c.in_ok-scan.ensures.directories) c.in_ok-scan.ensures.rewrite in
+    at_err c.from_residual-in_err-traced.result (IsLeftByOpening c.args.config.recovery_mode said d new)
+    (inr (both_left b c.args.config.recovery_mode said at alike d made makes new append rewrite c.recover_alone.ensures.leaves))
+
+pub returns-in_err-traced-clause-reads : goal.returns-in_err-traced-clause-reads
+returns-in_err-traced-clause-reads g c =
+    let said = directories_of (settings_of c.args.config) in
+    let d = g.F.FileSystem.disk c.args.files.now in
+    let b = c.scan.new.self in
+    let made = g.F.FileSystem.disk c.scan.new.files in
+    let new = g.F.FileSystem.disk c.recover_alone.new.files in
+    let at = c.in_ok-scan.ensures.directories ∙ ap (λ (k : Config). directories_of (settings_of k)) c.new-builder.ensures.config in
+    let alike = ap (λ (k : Config). k.recovery_mode) (c.in_ok-scan.ensures.config ∙ c.new-builder.ensures.config) in
+    let makes = subst (λ (k : Config). OnlyMakes (directories_of (settings_of k)) d made) c.new-builder.ensures.config c.in_ok-scan.ensures.only in
+    at_err c.from_residual-in_err-traced.result (IsFoundAgain c.args.config.recovery_mode said d new)
+    (both_again b c.args.config.recovery_mode said at alike d made makes new c.recover_alone.ensures.leaves)
+
 pub returns-clause-ok : goal.returns-clause-ok
 returns-clause-ok g c =
     let said = directories_of (settings_of c.args.config) in
@@ -90,8 +122,14 @@ returns-clause-ok g c =
     let append = subst (λ (l : List Text). AreFound made (Log Append) l (names_in b Append)) (sym c.in_ok-scan.ensures.directories) c.in_ok-scan.ensures.append in
     let rewrite = subst (λ (l : List Text). AreFound made (Log Rewrite) l (names_in b Rewrite)) (sym c.in_ok-scan.ensures.directories) c.in_ok-scan.ensures.rewrite in
     let all = c.in_ok-pipes.ensures.replayed in
-    recovered_as b c.args.config.recovery_mode said at alike d made makes new c.in_ok-pipes.pipes all.0 c.finish.result append rewrite (λ queue cant. false≢true (c.in_ok-pipes.ensures.refused queue cant)) c.in_ok-pipes.ensures.pipes all.2
-    (c.finish.ensures.content all.0 all.1)
+    let p = c.in_ok-pipes.pipes in
+    let traced = c.in_ok-traced.traced in
+    let content = c.in_ok-traced.ensures.content all.0 all.1 in
+    recovered_as b c.args.config.recovery_mode said at alike d made makes new p all.0 traced append rewrite (λ queue cant. false≢true (c.in_ok-pipes.ensures.refused queue cant)) c.in_ok-pipes.ensures.pipes all.2 content
+    (recovered_traced b made new p all.0 traced c.in_ok-pipes.ensures.pipes all.2 content
+    (subst (λ (n : ℕ). MayBeTraced n traced all.2.rewrites all.2.appends) c.file_span-first.ensures.first
+    (c.in_ok-traced.ensures.cleanable all.2.rewrites all.2.appends (subst (λ (l : List Placed). IsReplayedTraced c.in_ok-pipes.machine l) all.2.all_are all.1)
+    (all_queue Rewrite made [] all.2.rewrite.files all.2.rewrites all.2.rewrite.got) (all_queue Append made [] all.2.append.files all.2.appends all.2.append.got))))
 
 pub returns-clause-paths : goal.returns-clause-paths
 returns-clause-paths g c =
@@ -203,3 +241,13 @@ pub returns-in_err-pipes-clause-taken : goal.returns-in_err-pipes-clause-taken
 returns-in_err-pipes-clause-taken g c =
     free_opening c.args.config.recovery_mode (directories_of (settings_of c.args.config)) (g.F.FileSystem.disk c.args.files.now) (g.F.FileSystem.disk c.recover_alone.new.files) (g.F.FileSystem.is_bounded c.args.files.now)
     (g.F.FileSystem.meter c.args.files.now) (g.F.FileSystem.meter c.recover_alone.new.files) None c.from_residual-in_err-pipes.result (returns-in_err-pipes-clause-cause g c)
+
+pub returns-in_err-traced-clause-later : goal.returns-in_err-traced-clause-later
+returns-in_err-traced-clause-later g c = no_more_then c.in_ok-scan.ensures.later c.in_ok-pipes.ensures.later
+
+pub returns-in_err-traced-clause-taken : goal.returns-in_err-traced-clause-taken
+returns-in_err-traced-clause-taken g c =
+    let said = directories_of (settings_of c.args.config) in
+    let d = g.F.FileSystem.disk c.args.files.now in
+    let new = g.F.FileSystem.disk c.recover_alone.new.files in
+    λ nothing. told_cause c.from_residual-in_err-traced.result (fault.Log Memory) (λ (x : EngineFault). IsUnopenable None c.args.config.recovery_mode said d new x) c.from_residual-in_err-traced.ensures.1 tt

@@ -15,14 +15,14 @@ use Rattle.raft_log_engine.proofs.engine.Engine.close.Goals as goal
 pub returns-then-self-clause-opens_front : goal.returns-then-self-clause-opens_front
 returns-then-self-clause-opens_front g c =
     let met = g.met.F.FileSystem g.world.𝓛 g.world.𝓜 g.world.𝓡 ((λ s x. x), (λ x. x), (λ x. x), λ x. x) in
-    rw (← c.self.view_is) (λ before batches alone w. written_opens (g.F.FileSystem.disk) (parts c.self.inside.files c.self.inside.pipes c.self.inside.tables c.self.inside.is_stopped c.self.inside.wrote_unsynced c.self.inside.blocks.reads) before batches (met.is_named c.self.inside.files) alone w)
+    rw (← c.self.view_is) (λ before batches alone w. written_opens (g.F.FileSystem.disk) (parts c.self.inside.files c.self.inside.pipes c.self.inside.traced.tables c.self.inside.is_stopped c.self.inside.wrote_unsynced c.self.inside.blocks.reads) before batches (met.is_named c.self.inside.files) alone w)
 
 -- closing the append queue was refused
 
 pub returns-in-Err-clause-opens : goal.returns-in-Err-clause-opens
 returns-in-Err-clause-opens g c =
     let met = g.met.F.FileSystem g.world.𝓛 g.world.𝓜 g.world.𝓡 ((λ s x. x), (λ x. x), (λ x. x), λ x. x) in
-    let old = (parts c.self.inside.files c.self.inside.pipes c.self.inside.tables c.self.inside.is_stopped c.self.inside.wrote_unsynced c.self.inside.blocks.reads) in
+    let old = (parts c.self.inside.files c.self.inside.pipes c.self.inside.traced.tables c.self.inside.is_stopped c.self.inside.wrote_unsynced c.self.inside.blocks.reads) in
     let p = c.self.inside.pipes in
     let q = c.close.new.self in
     let d = g.F.FileSystem.disk c.self.inside.files in
@@ -30,7 +30,7 @@ returns-in-Err-clause-opens g c =
     rw (← c.self.view_is) (λ sound alone.
     let kept = kept_by (g.F.FileSystem.disk) old (c.self.invariant c.if-self.false).batches sound.synced in
     closed_opens p q e kept.0 kept.1 (answers_on (g.F.FileSystem.disk) old) (met.is_named c.close.new.files) (first_closed p q d e c.close.result c.close.ensures.call c.close.ensures.other alone kept.0 kept.1 [] kept.2.rewrite kept.2.append)
-    (answered d p c.self.inside.tables kept.0 kept.1 kept.2))
+    (answered d p c.self.inside.traced.tables kept.0 kept.1 kept.2))
 
 pub returns-in-Err-clause-opens_front : goal.returns-in-Err-clause-opens_front
 returns-in-Err-clause-opens_front g c =
@@ -47,7 +47,7 @@ returns-in-Err-clause-opens_front g c =
 pub returns-in-Err-close-clause-opens : goal.returns-in-Err-close-clause-opens
 returns-in-Err-close-clause-opens g c =
     let met = g.met.F.FileSystem g.world.𝓛 g.world.𝓜 g.world.𝓡 ((λ s x. x), (λ x. x), (λ x. x), λ x. x) in
-    let old = (parts c.self.inside.files c.self.inside.pipes c.self.inside.tables c.self.inside.is_stopped c.self.inside.wrote_unsynced c.self.inside.blocks.reads) in
+    let old = (parts c.self.inside.files c.self.inside.pipes c.self.inside.traced.tables c.self.inside.is_stopped c.self.inside.wrote_unsynced c.self.inside.blocks.reads) in
     let p = c.self.inside.pipes in
     let q = c.close.new.self in
     let d = g.F.FileSystem.disk c.self.inside.files in
@@ -57,7 +57,7 @@ returns-in-Err-close-clause-opens g c =
     rw (← c.self.view_is) (λ sound alone.
     let kept = kept_by (g.F.FileSystem.disk) old (c.self.invariant c.if-self.false).batches sound.synced in
     closed_opens p t f kept.0 kept.1 (answers_on (g.F.FileSystem.disk) old) (met.is_named c.close-2.new.files) (both_closed p q t d e f _ c.close-2.result c.in_default.ensures.call c.in_default.ensures.other c.close-2.ensures.call c.close-2.ensures.other alone kept.0 kept.1 [] kept.2.rewrite kept.2.append)
-    (answered d p c.self.inside.tables kept.0 kept.1 kept.2))
+    (answered d p c.self.inside.traced.tables kept.0 kept.1 kept.2))
 
 pub returns-in-Err-close-clause-opens_front : goal.returns-in-Err-close-clause-opens_front
 returns-in-Err-close-clause-opens_front g c =
@@ -79,7 +79,7 @@ returns-in-Err-close-clause-later g c = rw (← c.self.view_is) (no_more_then c.
 pub returns-clause-opens : goal.returns-clause-opens
 returns-clause-opens g c =
     let met = g.met.F.FileSystem g.world.𝓛 g.world.𝓜 g.world.𝓡 ((λ s x. x), (λ x. x), (λ x. x), λ x. x) in
-    let old = (parts c.self.inside.files c.self.inside.pipes c.self.inside.tables c.self.inside.is_stopped c.self.inside.wrote_unsynced c.self.inside.blocks.reads) in
+    let old = (parts c.self.inside.files c.self.inside.pipes c.self.inside.traced.tables c.self.inside.is_stopped c.self.inside.wrote_unsynced c.self.inside.blocks.reads) in
     let p = c.self.inside.pipes in
     let q = c.close.new.self in
     let d = g.F.FileSystem.disk c.self.inside.files in
@@ -89,7 +89,7 @@ returns-clause-opens g c =
     rw (← c.self.view_is) (λ sound alone.
     let kept = kept_by (g.F.FileSystem.disk) old (c.self.invariant c.if-self.false).batches sound.synced in
     closed_opens p t f kept.0 kept.1 (answers_on (g.F.FileSystem.disk) old) (met.is_named c.close-2.new.files) (both_closed p q t d e f _ c.close-2.result c.in_default.ensures.call c.in_default.ensures.other c.close-2.ensures.call c.close-2.ensures.other alone kept.0 kept.1 [] kept.2.rewrite kept.2.append)
-    (answered d p c.self.inside.tables kept.0 kept.1 kept.2))
+    (answered d p c.self.inside.traced.tables kept.0 kept.1 kept.2))
 
 pub returns-clause-opens_front : goal.returns-clause-opens_front
 returns-clause-opens_front g c =
@@ -121,7 +121,7 @@ returns-in-Err-close-clause-cause g c =
 pub returns-clause-opens_all : goal.returns-clause-opens_all
 returns-clause-opens_all g c =
     let met = g.met.F.FileSystem g.world.𝓛 g.world.𝓜 g.world.𝓡 ((λ s x. x), (λ x. x), (λ x. x), λ x. x) in
-    let old = (parts c.self.inside.files c.self.inside.pipes c.self.inside.tables c.self.inside.is_stopped c.self.inside.wrote_unsynced c.self.inside.blocks.reads) in
+    let old = (parts c.self.inside.files c.self.inside.pipes c.self.inside.traced.tables c.self.inside.is_stopped c.self.inside.wrote_unsynced c.self.inside.blocks.reads) in
     let held = (c.self.invariant c.if-self.false).batches in
     let p = c.self.inside.pipes in
     let q = c.close.new.self in
@@ -132,7 +132,7 @@ returns-clause-opens_all g c =
     rw (← c.self.view_is) (λ alone.
     closed_opens p t f held.rewrites (held.synced ++ held.unsynced) (answers_on (g.F.FileSystem.disk) old) (met.is_named c.close-2.new.files)
     (all_closed p q t d e f _ c.close-2.result c.in_default.ensures.call c.in_default.ensures.other c.close-2.ensures.call c.close-2.ensures.other alone held.rewrites held.synced held.unsynced held.held.rewrite held.held.append)
-    (held_answered d p c.self.inside.tables held.rewrites held.synced held.unsynced held.held))
+    (held_answered d p c.self.inside.traced.tables held.rewrites held.synced held.unsynced held.held))
 
 -- ---- what an opening that tolerates a torn tail refuses then
 

@@ -26,4 +26,4 @@ returns-clause-in_tail g c = rw (← c.self.view_is) (λ directories.
 
 pub invariant_of-self : goal.invariant_of-self
 invariant_of-self g c =
-    λ goes_on. subst (λ d. HoldsBlocks d c.self.inside.pipes c.self.inside.tables c.self.inside.wrote_unsynced c.self.inside.blocks) (sym c.in_err-crash.ensures.err) (c.self.invariant goes_on)
+    λ goes_on. subst (λ d. HoldsBlocks d c.self.inside.pipes c.self.inside.traced c.self.inside.wrote_unsynced c.self.inside.blocks) (sym c.in_err-crash.ensures.err) (c.self.invariant goes_on)

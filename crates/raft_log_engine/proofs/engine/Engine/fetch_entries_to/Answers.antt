@@ -12,20 +12,20 @@ use Rattle.raft_log_engine.proofs.engine.Engine.fetch_entries_to.Goals as goal
 
 pub copies_of-requires-clause-read : goal.copies_of-requires-clause-read
 copies_of-requires-clause-read g c κs within =
-    blocks_read (g.F.FileSystem.disk c.self.inside.files) c.self.inside.pipes c.self.inside.tables c.self.inside.wrote_unsynced c.self.inside.blocks (c.self.invariant c.if-self.false)
+    blocks_read (g.F.FileSystem.disk c.self.inside.files) c.self.inside.pipes c.self.inside.traced c.self.inside.wrote_unsynced c.self.inside.blocks (c.self.invariant c.if-self.false)
 
 pub copies_of-requires-clause-blocks : goal.copies_of-requires-clause-blocks
 copies_of-requires-clause-blocks g c κs within = λ e among.
     let held = (c.self.invariant c.if-self.false).batches in
-    let at = fetched_there (content_in c.self.inside.tables c.args.group) c.args.begin c.args.end c.args.max_size c.in-Ok.places.items c.in-Ok.ensures.some c.in-Ok.ensures.none c.in-Ok.ensures.unknown e
+    let at = fetched_there (content_in c.self.inside.traced.tables c.args.group) c.args.begin c.args.end c.args.max_size c.in-Ok.places.items c.in-Ok.ensures.some c.in-Ok.ensures.none c.in-Ok.ensures.unknown e
     (subst (λ l. Contains l e) c.deref.ensures.value among) in
-    has_block (g.F.FileSystem.disk c.self.inside.files) c.self.inside.pipes c.self.inside.tables held.rewrites held.synced held.unsynced held.held c.args.group at.0 e at.3
+    has_block (g.F.FileSystem.disk c.self.inside.files) c.self.inside.pipes c.self.inside.traced.tables held.rewrites held.synced held.unsynced held.held c.args.group at.0 e at.3
 
 pub invariant_of-self : goal.invariant_of-self
 invariant_of-self g c =
-    λ goes_on. blocks_more (g.F.FileSystem.disk c.self.inside.files) c.self.inside.pipes c.self.inside.tables c.self.inside.wrote_unsynced c.self.inside.blocks (c.self.invariant c.if-self.false) c.copies_of.new.cache (Contains c.deref.result.now)
+    λ goes_on. blocks_more (g.F.FileSystem.disk c.self.inside.files) c.self.inside.pipes c.self.inside.traced c.self.inside.wrote_unsynced c.self.inside.blocks (c.self.invariant c.if-self.false) c.copies_of.new.cache (Contains c.deref.result.now)
     (λ e among.
-    let at = fetched_there (content_in c.self.inside.tables c.args.group) c.args.begin c.args.end c.args.max_size c.in-Ok.places.items c.in-Ok.ensures.some c.in-Ok.ensures.none c.in-Ok.ensures.unknown e
+    let at = fetched_there (content_in c.self.inside.traced.tables c.args.group) c.args.begin c.args.end c.args.max_size c.in-Ok.places.items c.in-Ok.ensures.some c.in-Ok.ensures.none c.in-Ok.ensures.unknown e
     (subst (λ l. Contains l e) c.deref.ensures.value among) in
     (c.args.group, (at.0, at.3)))
     c.copies_of.ensures.kept
@@ -35,10 +35,10 @@ returns-clause-found g c =
     let held = (c.self.invariant c.if-self.false).batches in
     let d = g.F.FileSystem.disk c.self.inside.files in
     let p = c.self.inside.pipes in
-    rw (← c.self.view_is) (copied c.copies_of.result (bytes_on d p) (content_in c.self.inside.tables c.args.group) c.args.begin c.args.end c.args.max_size c.in-Ok.places.items
+    rw (← c.self.view_is) (copied c.copies_of.result (bytes_on d p) (content_in c.self.inside.traced.tables c.args.group) c.args.begin c.args.end c.args.max_size c.in-Ok.places.items
     (rw (← c.deref.ensures.value) c.copies_of.ensures.copied)
-    (has_read (bytes_on d p) (content_in c.self.inside.tables c.args.group) c.args.begin c.args.end c.args.max_size c.in-Ok.places.items
-    (λ i e is. measured d p c.self.inside.tables held.rewrites held.synced held.unsynced held.held c.args.group i e is)
+    (has_read (bytes_on d p) (content_in c.self.inside.traced.tables c.args.group) c.args.begin c.args.end c.args.max_size c.in-Ok.places.items
+    (λ i e is. measured d p c.self.inside.traced.tables held.rewrites held.synced held.unsynced held.held c.args.group i e is)
     c.in-Ok.ensures.some c.in-Ok.ensures.none c.in-Ok.ensures.unknown))
 
 pub returns-clause-reads : goal.returns-clause-reads
@@ -47,13 +47,13 @@ returns-clause-reads g c =
 
 pub returns-in-Err-clause-err : goal.returns-in-Err-clause-err
 returns-in-Err-clause-err g c =
-    rw (← c.self.view_is) (range_fault (g.F.FileSystem.disk) (g.F.FileSystem.meter) (parts c.self.inside.files c.self.inside.pipes c.self.inside.tables c.self.inside.is_stopped c.self.inside.wrote_unsynced c.self.inside.blocks.reads) (content_in c.self.inside.tables c.args.group) c.args.begin c.args.end
+    rw (← c.self.view_is) (range_fault (g.F.FileSystem.disk) (g.F.FileSystem.meter) (parts c.self.inside.files c.self.inside.pipes c.self.inside.traced.tables c.self.inside.is_stopped c.self.inside.wrote_unsynced c.self.inside.blocks.reads) (content_in c.self.inside.traced.tables c.args.group) c.args.begin c.args.end
     c.args.max_size c.in-Err.error c.fault_of.result c.fault_of.ensures c.in-Err.ensures.some c.in-Err.ensures.none c.in-Err.ensures.unknown)
 
 pub returns-clause-err : goal.returns-clause-err
 returns-clause-err g c =
-    rw (← c.self.view_is) (copies_fault (g.F.FileSystem.disk) (g.F.FileSystem.meter) (parts c.self.inside.files c.self.inside.pipes c.self.inside.tables c.self.inside.is_stopped c.self.inside.wrote_unsynced c.self.inside.blocks.reads) (content_in c.self.inside.tables c.args.group) c.args.begin c.args.end
+    rw (← c.self.view_is) (copies_fault (g.F.FileSystem.disk) (g.F.FileSystem.meter) (parts c.self.inside.files c.self.inside.pipes c.self.inside.traced.tables c.self.inside.is_stopped c.self.inside.wrote_unsynced c.self.inside.blocks.reads) (content_in c.self.inside.traced.tables c.args.group) c.args.begin c.args.end
     c.copies_of.result c.deref.result.now
-    (λ e among. fetched_there (content_in c.self.inside.tables c.args.group) c.args.begin c.args.end c.args.max_size c.in-Ok.places.items c.in-Ok.ensures.some c.in-Ok.ensures.none c.in-Ok.ensures.unknown e
+    (λ e among. fetched_there (content_in c.self.inside.traced.tables c.args.group) c.args.begin c.args.end c.args.max_size c.in-Ok.places.items c.in-Ok.ensures.some c.in-Ok.ensures.none c.in-Ok.ensures.unknown e
     (subst (λ l. Contains l e) c.deref.ensures.value among))
     c.copies_of.ensures.err)

@@ -15,22 +15,22 @@ use Rattle.raft_log_engine.proofs.engine.Engine.get_entry.Goals as goal
 
 pub copy_of-requires-clause-read : goal.copy_of-requires-clause-read
 copy_of-requires-clause-read g c κs within =
-    blocks_read (g.F.FileSystem.disk c.self.inside.files) c.self.inside.pipes c.self.inside.tables c.self.inside.wrote_unsynced c.self.inside.blocks (c.self.invariant c.if-self.false)
+    blocks_read (g.F.FileSystem.disk c.self.inside.files) c.self.inside.pipes c.self.inside.traced c.self.inside.wrote_unsynced c.self.inside.blocks (c.self.invariant c.if-self.false)
 
 pub copy_of-requires-clause-block : goal.copy_of-requires-clause-block
 copy_of-requires-clause-block g c κs within =
     let held = (c.self.invariant c.if-self.false).batches in
-    has_block (g.F.FileSystem.disk c.self.inside.files) c.self.inside.pipes c.self.inside.tables held.rewrites held.synced held.unsynced held.held c.args.group c.args.index c.in-Some.place (sym c.in-Some.ensures)
+    has_block (g.F.FileSystem.disk c.self.inside.files) c.self.inside.pipes c.self.inside.traced.tables held.rewrites held.synced held.unsynced held.held c.args.group c.args.index c.in-Some.place (sym c.in-Some.ensures)
 
 pub invariant_of-self : goal.invariant_of-self
 invariant_of-self g c =
-    λ goes_on. blocks_more (g.F.FileSystem.disk c.self.inside.files) c.self.inside.pipes c.self.inside.tables c.self.inside.wrote_unsynced c.self.inside.blocks (c.self.invariant goes_on) c.copy_of.new.cache (λ e. e ≡ c.in-Some.place)
+    λ goes_on. blocks_more (g.F.FileSystem.disk c.self.inside.files) c.self.inside.pipes c.self.inside.traced c.self.inside.wrote_unsynced c.self.inside.blocks (c.self.invariant goes_on) c.copy_of.new.cache (λ e. e ≡ c.in-Some.place)
     (λ e is. (c.args.group, (c.args.index, sym c.in-Some.ensures ∙ ap (λ (x : EntryIndex). Some x) (sym is))))
     c.copy_of.ensures.kept
 
 pub invariant_of-self-in-Some : goal.invariant_of-self-in-Some
 invariant_of-self-in-Some g c =
-    λ goes_on. blocks_more (g.F.FileSystem.disk c.self.inside.files) c.self.inside.pipes c.self.inside.tables c.self.inside.wrote_unsynced c.self.inside.blocks (c.self.invariant goes_on) c.copy_of.new.cache (λ e. e ≡ c.in-Some.place)
+    λ goes_on. blocks_more (g.F.FileSystem.disk c.self.inside.files) c.self.inside.pipes c.self.inside.traced c.self.inside.wrote_unsynced c.self.inside.blocks (c.self.invariant goes_on) c.copy_of.new.cache (λ e. e ≡ c.in-Some.place)
     (λ e is. (c.args.group, (c.args.index, sym c.in-Some.ensures ∙ ap (λ (x : EntryIndex). Some x) (sym is))))
     c.copy_of.ensures.kept
 
@@ -43,5 +43,5 @@ returns-in_ok-copy_of-in-Some-clause-found g c =
 pub returns-in_err-copy_of-in-Some-clause-err : goal.returns-in_err-copy_of-in-Some-clause-err
 returns-in_err-copy_of-in-Some-clause-err g c =
     rw (← c.self.view_is) (told_cause c.from_residual.result c.in_err-copy_of-in-Some.field-0.0
-    (λ (x : EngineFault). IsGetFault (g.F.FileSystem.disk) (g.F.FileSystem.meter) (parts c.self.inside.files c.self.inside.pipes c.self.inside.tables c.self.inside.is_stopped c.self.inside.wrote_unsynced c.self.inside.blocks.reads) (content_in c.self.inside.tables c.args.group) c.args.index x) c.from_residual.ensures.1
+    (λ (x : EngineFault). IsGetFault (g.F.FileSystem.disk) (g.F.FileSystem.meter) (parts c.self.inside.files c.self.inside.pipes c.self.inside.traced.tables c.self.inside.is_stopped c.self.inside.wrote_unsynced c.self.inside.blocks.reads) (content_in c.self.inside.traced.tables c.args.group) c.args.index x) c.from_residual.ensures.1
     (inr (c.in-Some.place, sym c.in-Some.ensures, c.in_err-copy_of-in-Some.ensures.err)))

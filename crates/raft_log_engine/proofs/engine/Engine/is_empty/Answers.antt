@@ -5,4 +5,4 @@ use Rattle.raft_log_engine.proofs.engine.Engine.is_empty.Goals as goal
 
 pub returns-clause-empty : goal.returns-clause-empty
 returns-clause-empty g c =
-    rw (← c.self.view_is) (empty_seen (bytes_on (g.F.FileSystem.disk c.self.inside.files) c.self.inside.pipes) (content_in c.self.inside.tables) c.is_empty.result c.is_empty.ensures.yes c.is_empty.ensures.no)
+    rw (← c.self.view_is) (empty_seen (bytes_on (g.F.FileSystem.disk c.self.inside.files) c.self.inside.pipes) (content_in c.self.inside.traced.tables) c.is_empty.result c.is_empty.ensures.yes c.is_empty.ensures.no)

@@ -1,6 +1,7 @@
 -- After a sync all batches are on the disk; a refused one leaves them.
 use Rattle.std.proofs.Common.{true, [], ◌++◌, refl, sym, ◌∙◌}
 use Rattle.std.proofs.lemmas.Bool.{false≢true}
+use Rattle.raft_log_engine.proofs.Traced.{still_traced}
 use Rattle.raft_log_engine.proofs.Synced.{IsStill, all_synced, still_left, still_opened}
 use Rattle.std.proofs.lemmas.List.{append-nil}
 use Rattle.raft_log_pipe.proofs.BlockLemmas.{same_files}
@@ -17,19 +18,19 @@ use Rattle.raft_log_engine.proofs.engine.Engine.sync.Goals as goal
 pub returns-then-self-clause-opens_front : goal.returns-then-self-clause-opens_front
 returns-then-self-clause-opens_front g c =
     let met = g.met.F.FileSystem g.world.𝓛 g.world.𝓜 g.world.𝓡 ((λ s x. x), (λ x. x), (λ x. x), λ x. x) in
-    rw (← c.self.view_is) (λ before batches alone w. written_opens (g.F.FileSystem.disk) (parts c.self.inside.files c.self.inside.pipes c.self.inside.tables c.self.inside.is_stopped c.self.inside.wrote_unsynced c.self.inside.blocks.reads) before batches (met.is_named c.self.inside.files) alone w)
+    rw (← c.self.view_is) (λ before batches alone w. written_opens (g.F.FileSystem.disk) (parts c.self.inside.files c.self.inside.pipes c.self.inside.traced.tables c.self.inside.is_stopped c.self.inside.wrote_unsynced c.self.inside.blocks.reads) before batches (met.is_named c.self.inside.files) alone w)
 
 pub returns-in-Err-clause-written : goal.returns-in-Err-clause-written
 returns-in-Err-clause-written g c =
-    let old = (parts c.self.inside.files c.self.inside.pipes c.self.inside.tables c.self.inside.is_stopped c.self.inside.wrote_unsynced c.self.inside.blocks.reads) in
-    let new = parts c.sync.new.files c.sync.new.self c.self.inside.tables true c.self.inside.wrote_unsynced c.self.inside.blocks.reads in
+    let old = (parts c.self.inside.files c.self.inside.pipes c.self.inside.traced.tables c.self.inside.is_stopped c.self.inside.wrote_unsynced c.self.inside.blocks.reads) in
+    let new = parts c.sync.new.files c.sync.new.self c.self.inside.traced.tables true c.self.inside.wrote_unsynced c.self.inside.blocks.reads in
     rw (← c.self.view_is) (λ before batches w. unsynced_written (g.F.FileSystem.disk) old new before batches c.in-Err.ensures.other c.in-Err.ensures.call.err w)
 
 pub returns-in-Err-clause-opens_front : goal.returns-in-Err-clause-opens_front
 returns-in-Err-clause-opens_front g c =
     let met = g.met.F.FileSystem g.world.𝓛 g.world.𝓜 g.world.𝓡 ((λ s x. x), (λ x. x), (λ x. x), λ x. x) in
-    let old = (parts c.self.inside.files c.self.inside.pipes c.self.inside.tables c.self.inside.is_stopped c.self.inside.wrote_unsynced c.self.inside.blocks.reads) in
-    let new = parts c.sync.new.files c.sync.new.self c.self.inside.tables true c.self.inside.wrote_unsynced c.self.inside.blocks.reads in
+    let old = (parts c.self.inside.files c.self.inside.pipes c.self.inside.traced.tables c.self.inside.is_stopped c.self.inside.wrote_unsynced c.self.inside.blocks.reads) in
+    let new = parts c.sync.new.files c.sync.new.self c.self.inside.traced.tables true c.self.inside.wrote_unsynced c.self.inside.blocks.reads in
     rw (← c.self.view_is) (λ before batches alone w. written_opens (g.F.FileSystem.disk) new before batches (met.is_named c.sync.new.files)
     (synced_stands c.self.inside.pipes c.sync.new.self (g.F.FileSystem.disk c.self.inside.files) (g.F.FileSystem.disk c.sync.new.files) c.in-Err.ensures.call.same c.in-Err.ensures.call.paths c.in-Err.ensures.call.names c.in-Err.ensures.other alone)
     (unsynced_written (g.F.FileSystem.disk) old new before batches c.in-Err.ensures.other c.in-Err.ensures.call.err w))
@@ -39,17 +40,19 @@ invariant_of-self-in_default g c =
     let held = (c.self.invariant c.if-self.false).batches in
     let d = g.F.FileSystem.disk c.self.inside.files in
     let e = g.F.FileSystem.disk c.sync.new.files in
-    let kept = synced_kept d e c.self.inside.pipes c.sync.new.self c.self.inside.tables held.rewrites held.synced held.unsynced held.held (c.in_default.ensures.both held.held.pipes) c.in_default.ensures.call.same c.in_default.ensures.other c.in_default.ensures.call.ok in
+    let kept = synced_kept d e c.self.inside.pipes c.sync.new.self c.self.inside.traced.tables held.rewrites held.synced held.unsynced held.held (c.in_default.ensures.both held.held.pipes) c.in_default.ensures.call.same c.in_default.ensures.other c.in_default.ensures.call.ok in
     λ goes_on. record {
       batches = record {
         rewrites = held.rewrites;
         synced = held.synced ++ held.unsynced;
         unsynced = [];
-        held = kept_held e c.sync.new.self c.self.inside.tables held.rewrites (held.synced ++ held.unsynced) kept;
+        held = kept_held e c.sync.new.self c.self.inside.traced.tables held.rewrites (held.synced ++ held.unsynced) kept;
         none = λ all. refl;
       };
       blocks = λ at bytes is_kept. settled_still c.self.inside.pipes c.sync.new.self held.rewrites (held.synced ++ held.unsynced) ((held.synced ++ held.unsynced) ++ []) c.in_default.ensures.other.same
           (same_files c.self.inside.pipes.append c.sync.new.self.append c.in_default.ensures.call.same.0 c.in_default.ensures.call.same.1) (sym (append-nil (held.synced ++ held.unsynced))) at bytes ((c.self.invariant c.if-self.false).blocks at bytes is_kept);
+      traces = still_traced c.self.inside.pipes c.sync.new.self c.self.inside.traced.traces held.rewrites (held.synced ++ held.unsynced) ((held.synced ++ held.unsynced) ++ []) c.in_default.ensures.call.same
+          (sym (append-nil (held.synced ++ held.unsynced))) (c.self.invariant c.if-self.false).traces;
     }
 
 pub returns-clause-answers : goal.returns-clause-answers
@@ -57,18 +60,18 @@ returns-clause-answers g c =
     let held = (c.self.invariant c.if-self.false).batches in
     let d = g.F.FileSystem.disk c.self.inside.files in
     let e = g.F.FileSystem.disk c.sync.new.files in
-    let kept = synced_kept d e c.self.inside.pipes c.sync.new.self c.self.inside.tables held.rewrites held.synced held.unsynced held.held (c.in_default.ensures.both held.held.pipes) c.in_default.ensures.call.same c.in_default.ensures.other c.in_default.ensures.call.ok in
-    rw (← c.self.view_is) (answered e c.sync.new.self c.self.inside.tables held.rewrites (held.synced ++ held.unsynced) kept ∙ sym (held_answered d c.self.inside.pipes c.self.inside.tables held.rewrites held.synced held.unsynced held.held))
+    let kept = synced_kept d e c.self.inside.pipes c.sync.new.self c.self.inside.traced.tables held.rewrites held.synced held.unsynced held.held (c.in_default.ensures.both held.held.pipes) c.in_default.ensures.call.same c.in_default.ensures.other c.in_default.ensures.call.ok in
+    rw (← c.self.view_is) (answered e c.sync.new.self c.self.inside.traced.tables held.rewrites (held.synced ++ held.unsynced) kept ∙ sym (held_answered d c.self.inside.pipes c.self.inside.traced.tables held.rewrites held.synced held.unsynced held.held))
 
 pub returns-clause-kept : goal.returns-clause-kept
 returns-clause-kept g c =
     let held = (c.self.invariant c.if-self.false).batches in
     let d = g.F.FileSystem.disk c.self.inside.files in
     let e = g.F.FileSystem.disk c.sync.new.files in
-    let kept = synced_kept d e c.self.inside.pipes c.sync.new.self c.self.inside.tables held.rewrites held.synced held.unsynced held.held (c.in_default.ensures.both held.held.pipes) c.in_default.ensures.call.same c.in_default.ensures.other c.in_default.ensures.call.ok in
+    let kept = synced_kept d e c.self.inside.pipes c.sync.new.self c.self.inside.traced.tables held.rewrites held.synced held.unsynced held.held (c.in_default.ensures.both held.held.pipes) c.in_default.ensures.call.same c.in_default.ensures.other c.in_default.ensures.call.ok in
     rw (← c.self.view_is) (λ sound. (
       record { goes_on = c.if-self.false; synced = sound.synced },
-      answered e c.sync.new.self c.self.inside.tables held.rewrites (held.synced ++ held.unsynced) kept ∙ sym (held_answered d c.self.inside.pipes c.self.inside.tables held.rewrites held.synced held.unsynced held.held),
+      answered e c.sync.new.self c.self.inside.traced.tables held.rewrites (held.synced ++ held.unsynced) kept ∙ sym (held_answered d c.self.inside.pipes c.self.inside.traced.tables held.rewrites held.synced held.unsynced held.held),
     ))
 
 pub returns-clause-opens : goal.returns-clause-opens
@@ -77,21 +80,21 @@ returns-clause-opens g c =
     let held = (c.self.invariant c.if-self.false).batches in
     let d = g.F.FileSystem.disk c.self.inside.files in
     let e = g.F.FileSystem.disk c.sync.new.files in
-    let kept = synced_kept d e c.self.inside.pipes c.sync.new.self c.self.inside.tables held.rewrites held.synced held.unsynced held.held (c.in_default.ensures.both held.held.pipes) c.in_default.ensures.call.same c.in_default.ensures.other c.in_default.ensures.call.ok in
-    rw (← c.self.view_is) (λ alone. kept_opens e c.sync.new.self c.self.inside.tables held.rewrites (held.synced ++ held.unsynced) (met.is_named c.sync.new.files)
+    let kept = synced_kept d e c.self.inside.pipes c.sync.new.self c.self.inside.traced.tables held.rewrites held.synced held.unsynced held.held (c.in_default.ensures.both held.held.pipes) c.in_default.ensures.call.same c.in_default.ensures.other c.in_default.ensures.call.ok in
+    rw (← c.self.view_is) (λ alone. kept_opens e c.sync.new.self c.self.inside.traced.tables held.rewrites (held.synced ++ held.unsynced) (met.is_named c.sync.new.files)
     (synced_stands c.self.inside.pipes c.sync.new.self d e c.in_default.ensures.call.same c.in_default.ensures.call.paths c.in_default.ensures.call.names c.in_default.ensures.other alone) kept)
 
 pub returns-clause-written : goal.returns-clause-written
 returns-clause-written g c =
-    let old = (parts c.self.inside.files c.self.inside.pipes c.self.inside.tables c.self.inside.is_stopped c.self.inside.wrote_unsynced c.self.inside.blocks.reads) in
-    let new = parts c.sync.new.files c.sync.new.self c.self.inside.tables c.self.inside.is_stopped c.self.inside.wrote_unsynced c.self.inside.blocks.reads in
+    let old = (parts c.self.inside.files c.self.inside.pipes c.self.inside.traced.tables c.self.inside.is_stopped c.self.inside.wrote_unsynced c.self.inside.blocks.reads) in
+    let new = parts c.sync.new.files c.sync.new.self c.self.inside.traced.tables c.self.inside.is_stopped c.self.inside.wrote_unsynced c.self.inside.blocks.reads in
     rw (← c.self.view_is) (λ before batches w. synced_written (g.F.FileSystem.disk) old new before batches c.in_default.ensures.other c.in_default.ensures.call.ok w)
 
 pub returns-clause-opens_front : goal.returns-clause-opens_front
 returns-clause-opens_front g c =
     let met = g.met.F.FileSystem g.world.𝓛 g.world.𝓜 g.world.𝓡 ((λ s x. x), (λ x. x), (λ x. x), λ x. x) in
-    let old = (parts c.self.inside.files c.self.inside.pipes c.self.inside.tables c.self.inside.is_stopped c.self.inside.wrote_unsynced c.self.inside.blocks.reads) in
-    let new = parts c.sync.new.files c.sync.new.self c.self.inside.tables c.self.inside.is_stopped c.self.inside.wrote_unsynced c.self.inside.blocks.reads in
+    let old = (parts c.self.inside.files c.self.inside.pipes c.self.inside.traced.tables c.self.inside.is_stopped c.self.inside.wrote_unsynced c.self.inside.blocks.reads) in
+    let new = parts c.sync.new.files c.sync.new.self c.self.inside.traced.tables c.self.inside.is_stopped c.self.inside.wrote_unsynced c.self.inside.blocks.reads in
     rw (← c.self.view_is) (λ before batches alone w. written_opens (g.F.FileSystem.disk) new before batches (met.is_named c.sync.new.files)
     (synced_stands c.self.inside.pipes c.sync.new.self (g.F.FileSystem.disk c.self.inside.files) (g.F.FileSystem.disk c.sync.new.files) c.in_default.ensures.call.same c.in_default.ensures.call.paths c.in_default.ensures.call.names c.in_default.ensures.other alone)
     (synced_written (g.F.FileSystem.disk) old new before batches c.in_default.ensures.other c.in_default.ensures.call.ok w))
@@ -101,13 +104,13 @@ returns-clause-all_written g c =
     let held = (c.self.invariant c.if-self.false).batches in
     let d = g.F.FileSystem.disk c.self.inside.files in
     let e = g.F.FileSystem.disk c.sync.new.files in
-    let new = parts c.sync.new.files c.sync.new.self c.self.inside.tables c.self.inside.is_stopped c.self.inside.wrote_unsynced c.self.inside.blocks.reads in
-    let kept = synced_kept d e c.self.inside.pipes c.sync.new.self c.self.inside.tables held.rewrites held.synced held.unsynced held.held (c.in_default.ensures.both held.held.pipes) c.in_default.ensures.call.same c.in_default.ensures.other c.in_default.ensures.call.ok in
-    nothing_since (g.F.FileSystem.disk) new held.rewrites (held.synced ++ held.unsynced) kept.rewrite kept.append (answers_on (g.F.FileSystem.disk) new) (answered e c.sync.new.self c.self.inside.tables held.rewrites (held.synced ++ held.unsynced) kept)
+    let new = parts c.sync.new.files c.sync.new.self c.self.inside.traced.tables c.self.inside.is_stopped c.self.inside.wrote_unsynced c.self.inside.blocks.reads in
+    let kept = synced_kept d e c.self.inside.pipes c.sync.new.self c.self.inside.traced.tables held.rewrites held.synced held.unsynced held.held (c.in_default.ensures.both held.held.pipes) c.in_default.ensures.call.same c.in_default.ensures.other c.in_default.ensures.call.ok in
+    nothing_since (g.F.FileSystem.disk) new held.rewrites (held.synced ++ held.unsynced) kept.rewrite kept.append (answers_on (g.F.FileSystem.disk) new) (answered e c.sync.new.self c.self.inside.traced.tables held.rewrites (held.synced ++ held.unsynced) kept)
 
 pub returns-in-Err-clause-taken : goal.returns-in-Err-clause-taken
 returns-in-Err-clause-taken g c =
-    rw (← c.self.view_is) (λ free. failed_sync (parts c.self.inside.files c.self.inside.pipes c.self.inside.tables c.self.inside.is_stopped c.self.inside.wrote_unsynced c.self.inside.blocks.reads) c.in-Err.error (c.in-Err.ensures.taken free))
+    rw (← c.self.view_is) (λ free. failed_sync (parts c.self.inside.files c.self.inside.pipes c.self.inside.traced.tables c.self.inside.is_stopped c.self.inside.wrote_unsynced c.self.inside.blocks.reads) c.in-Err.error (c.in-Err.ensures.taken free))
 
 -- ---- where the files lie
 
@@ -152,7 +155,7 @@ returns-clause-opens_in_tail g c =
     let held = (c.self.invariant c.if-self.false).batches in
     let d = g.F.FileSystem.disk c.self.inside.files in
     let e = g.F.FileSystem.disk c.sync.new.files in
-    let kept = synced_kept d e c.self.inside.pipes c.sync.new.self c.self.inside.tables held.rewrites held.synced held.unsynced held.held (c.in_default.ensures.both held.held.pipes) c.in_default.ensures.call.same c.in_default.ensures.other c.in_default.ensures.call.ok in
+    let kept = synced_kept d e c.self.inside.pipes c.sync.new.self c.self.inside.traced.tables held.rewrites held.synced held.unsynced held.held (c.in_default.ensures.both held.held.pipes) c.in_default.ensures.call.same c.in_default.ensures.other c.in_default.ensures.call.ok in
     rw (← c.self.view_is) (λ going alone. held_in_tail e c.sync.new.self held.rewrites (held.synced ++ held.unsynced) [] (met.is_named c.sync.new.files)
     (synced_stands c.self.inside.pipes c.sync.new.self d e c.in_default.ensures.call.same c.in_default.ensures.call.paths c.in_default.ensures.call.names c.in_default.ensures.other alone) kept.rewrite kept.append)
 
@@ -165,7 +168,7 @@ returns-in-Err-clause-cause g c = rw (← c.self.view_is) c.in-Err.ensures.cause
 
 pub returns-in-Err-clause-left : goal.returns-in-Err-clause-left
 returns-in-Err-clause-left g c =
-    let old = (parts c.self.inside.files c.self.inside.pipes c.self.inside.tables c.self.inside.is_stopped c.self.inside.wrote_unsynced c.self.inside.blocks.reads) in
+    let old = (parts c.self.inside.files c.self.inside.pipes c.self.inside.traced.tables c.self.inside.is_stopped c.self.inside.wrote_unsynced c.self.inside.blocks.reads) in
     let still : IsStill (g.F.FileSystem.disk c.self.inside.files) c.self.inside.pipes (g.F.FileSystem.disk c.sync.new.files) c.sync.new.self = record {
       pipes = c.in-Err.ensures.both;
       same = c.in-Err.ensures.call.same;
@@ -179,7 +182,7 @@ returns-in-Err-clause-left g c =
 pub returns-in-Err-clause-opens_still : goal.returns-in-Err-clause-opens_still
 returns-in-Err-clause-opens_still g c =
     let met = g.met.F.FileSystem g.world.𝓛 g.world.𝓜 g.world.𝓡 ((λ s x. x), (λ x. x), (λ x. x), λ x. x) in
-    let old = (parts c.self.inside.files c.self.inside.pipes c.self.inside.tables c.self.inside.is_stopped c.self.inside.wrote_unsynced c.self.inside.blocks.reads) in
+    let old = (parts c.self.inside.files c.self.inside.pipes c.self.inside.traced.tables c.self.inside.is_stopped c.self.inside.wrote_unsynced c.self.inside.blocks.reads) in
     let still : IsStill (g.F.FileSystem.disk c.self.inside.files) c.self.inside.pipes (g.F.FileSystem.disk c.sync.new.files) c.sync.new.self = record {
       pipes = c.in-Err.ensures.both;
       same = c.in-Err.ensures.call.same;
@@ -192,7 +195,7 @@ returns-in-Err-clause-opens_still g c =
 
 pub returns-clause-left : goal.returns-clause-left
 returns-clause-left g c =
-    let old = (parts c.self.inside.files c.self.inside.pipes c.self.inside.tables c.self.inside.is_stopped c.self.inside.wrote_unsynced c.self.inside.blocks.reads) in
+    let old = (parts c.self.inside.files c.self.inside.pipes c.self.inside.traced.tables c.self.inside.is_stopped c.self.inside.wrote_unsynced c.self.inside.blocks.reads) in
     let still : IsStill (g.F.FileSystem.disk c.self.inside.files) c.self.inside.pipes (g.F.FileSystem.disk c.sync.new.files) c.sync.new.self = record {
       pipes = c.in_default.ensures.both;
       same = c.in_default.ensures.call.same;
@@ -206,7 +209,7 @@ returns-clause-left g c =
 pub returns-clause-opens_still : goal.returns-clause-opens_still
 returns-clause-opens_still g c =
     let met = g.met.F.FileSystem g.world.𝓛 g.world.𝓜 g.world.𝓡 ((λ s x. x), (λ x. x), (λ x. x), λ x. x) in
-    let old = (parts c.self.inside.files c.self.inside.pipes c.self.inside.tables c.self.inside.is_stopped c.self.inside.wrote_unsynced c.self.inside.blocks.reads) in
+    let old = (parts c.self.inside.files c.self.inside.pipes c.self.inside.traced.tables c.self.inside.is_stopped c.self.inside.wrote_unsynced c.self.inside.blocks.reads) in
     let still : IsStill (g.F.FileSystem.disk c.self.inside.files) c.self.inside.pipes (g.F.FileSystem.disk c.sync.new.files) c.sync.new.self = record {
       pipes = c.in_default.ensures.both;
       same = c.in_default.ensures.call.same;
@@ -240,7 +243,7 @@ returns-clause-goes_on_in_tail g c =
 pub returns-then-self-clause-tail_still : goal.returns-then-self-clause-tail_still
 returns-then-self-clause-tail_still g c =
     let met = g.met.F.FileSystem g.world.𝓛 g.world.𝓜 g.world.𝓡 ((λ s x. x), (λ x. x), (λ x. x), λ x. x) in
-    rw (← c.self.view_is) (λ before batches alone w. written_in_tail (g.F.FileSystem.disk) (parts c.self.inside.files c.self.inside.pipes c.self.inside.tables c.self.inside.is_stopped c.self.inside.wrote_unsynced c.self.inside.blocks.reads) (met.is_named c.self.inside.files) alone before batches w)
+    rw (← c.self.view_is) (λ before batches alone w. written_in_tail (g.F.FileSystem.disk) (parts c.self.inside.files c.self.inside.pipes c.self.inside.traced.tables c.self.inside.is_stopped c.self.inside.wrote_unsynced c.self.inside.blocks.reads) (met.is_named c.self.inside.files) alone before batches w)
 
 pub returns-in-Err-clause-tail_still : goal.returns-in-Err-clause-tail_still
 returns-in-Err-clause-tail_still g c =
