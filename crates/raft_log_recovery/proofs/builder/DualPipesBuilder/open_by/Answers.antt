@@ -32,18 +32,18 @@ use Rattle.raft_log_recovery.specs.Caused.{AnyUnreadable, IsFirstBarred, IsFirst
 use Rattle.raft_log_pipe.proofs.CausedLemmas.{lacks_before, told_cause}
 use Rattle.raft_log_recovery.proofs.HoleLemmas.{holes_created, holes_opened}
 use Rattle.raft_log_recovery.proofs.CausedLemmas.{first_barred, none_unreadable, recovery_caused, recovery_for, refusal_for, refusal_then, refused_pipe, taken_of}
-use Rattle.raft_log_recovery.proofs.builder.DualPipesBuilder.open_queue.Goals as goal
+use Rattle.raft_log_recovery.proofs.builder.DualPipesBuilder.open_by.Goals as goal
 
 pub returns-then-not-are_plain-clause-left : goal.returns-then-not-are_plain-clause-left
 returns-then-not-are_plain-clause-left g c =
-    recovered_left (directories_in c.args.self.now) c.args.config.now.queue (g.F.FileSystem.disk c.args.files.now) (g.F.FileSystem.disk c.recover_queue.new.files) (names_in c.args.self.now c.args.config.now.queue) c.in_ok-recovered.recovered.items c.in_ok-recovered.ensures.ok
+    recovered_left (directories_in c.args.self.now) c.args.config.now.queue (g.F.FileSystem.disk c.args.files.now) (g.F.FileSystem.disk c.recover_in.new.files) (names_in c.args.self.now c.args.config.now.queue) c.in_ok-recovered.recovered.items c.in_ok-recovered.ensures.ok
 
 pub returns-in_err-recovered-clause-left : goal.returns-in_err-recovered-clause-left
 returns-in_err-recovered-clause-left g c = c.in_err-recovered.ensures.err
 
 pub returns-in_err-paths-clause-left : goal.returns-in_err-paths-clause-left
 returns-in_err-paths-clause-left g c =
-    recovered_left (directories_in c.args.self.now) c.args.config.now.queue (g.F.FileSystem.disk c.args.files.now) (g.F.FileSystem.disk c.recover_queue.new.files) (names_in c.args.self.now c.args.config.now.queue)
+    recovered_left (directories_in c.args.self.now) c.args.config.now.queue (g.F.FileSystem.disk c.args.files.now) (g.F.FileSystem.disk c.recover_in.new.files) (names_in c.args.self.now c.args.config.now.queue)
     c.in_ok-recovered.recovered.items c.in_ok-recovered.ensures.ok
 
 pub create-requires-clause-none : goal.create-requires-clause-none
@@ -54,13 +54,13 @@ create-requires-clause-none g c κs within =
     let said : map string_bytes c.in_ok-paths.paths.items ≡ directories_in c.args.self.now = c.in_ok-paths.ensures ∙ ap (map string_bytes) c.deref-2.ensures.value in
     let none = no_names old (directories_in c.args.self.now) queue names c.in_ok-recovered.recovered.items c.in_ok-recovered.ensures.ok.opened
     (omega (arith, ap length c.deref.ensures.value, c.deref.ensures.len, eqb-true (vec_len c.in_ok-recovered.recovered) 0 (sym c.is_empty.ensures ∙ c.if-is_empty.true))) in
-    none_last queue c.in_ok-paths.paths.items old (g.F.FileSystem.disk c.recover_queue.new.files) names c.in_ok-recovered.ensures.only.names_stay (subst (λ (l : List Text). AreFound old (Log queue) l names) (sym said) c.requires.found)
+    none_last queue c.in_ok-paths.paths.items old (g.F.FileSystem.disk c.recover_in.new.files) names c.in_ok-recovered.ensures.only.names_stay (subst (λ (l : List Text). AreFound old (Log queue) l names) (sym said) c.requires.found)
     (ap length none)
 
 pub returns-then-is_empty-clause-replayed : goal.returns-then-is_empty-clause-replayed
 returns-then-is_empty-clause-replayed g c =
-    created_gives c.create.result (g.M.ReplayMachine.has_replayed c.args.machine.now) (g.M.ReplayMachine.has_replayed c.recover_queue.new.machine) (directories_in c.args.self.now) c.args.config.now.queue (g.F.FileSystem.disk c.args.files.now)
-    (g.F.FileSystem.disk c.recover_queue.new.files) (g.F.FileSystem.disk c.create.new.files) (names_in c.args.self.now c.args.config.now.queue) c.in_ok-recovered.recovered.items c.in_ok-recovered.ensures.ok
+    created_gives c.create.result (g.M.ReplayMachine.has_replayed c.args.machine.now) (g.M.ReplayMachine.has_replayed c.recover_in.new.machine) (directories_in c.args.self.now) c.args.config.now.queue (g.F.FileSystem.disk c.args.files.now)
+    (g.F.FileSystem.disk c.recover_in.new.files) (g.F.FileSystem.disk c.create.new.files) (names_in c.args.self.now c.args.config.now.queue) c.in_ok-recovered.recovered.items c.in_ok-recovered.ensures.ok
     (omega (arith, ap length c.deref.ensures.value, c.deref.ensures.len, eqb-true (vec_len c.in_ok-recovered.recovered) 0 (sym c.is_empty.ensures ∙ c.if-is_empty.true)))
     c.in_ok-recovered.ensures.replayed c.create.ensures.holds
 
@@ -84,13 +84,13 @@ open-requires-clause-found g c κs within =
     let queue = c.args.config.now.queue in
     let names : List FileName = names_in c.args.self.now queue in
     let old = g.F.FileSystem.disk c.args.files.now in
-    let mid = g.F.FileSystem.disk c.recover_queue.new.files in
+    let mid = g.F.FileSystem.disk c.recover_in.new.files in
     let said : map string_bytes c.in_ok-paths.paths.items ≡ directories_in c.args.self.now = c.in_ok-paths.ensures ∙ ap (map string_bytes) c.deref-2.ensures.value in (
       batches_of queue old c.in_ok-recovered.recovered.items,
       recovered_found queue c.in_ok-paths.paths.items old mid names c.in_ok-recovered.recovered.items (subst (λ (l : List Text). AreFound old (Log queue) l names) (sym said) c.requires.found)
           (subst (λ (l : List Text). AreRecovered l queue old mid names c.in_ok-recovered.recovered.items) (sym said) c.in_ok-recovered.ensures.ok)
           (ap (list_all (λ f. f.format.alignment == 0)) (sym c.deref.ensures.value) ∙ sym c.are_plain.ensures ∙ c.if-not-are_plain.false)
-          (met.has_images c.recover_queue.new.files)
+          (met.has_images c.recover_in.new.files)
           (omega (arith, ap length c.deref.ensures.value, c.deref.ensures.len, eqb-false (vec_len c.in_ok-recovered.recovered) 0 (sym c.is_empty.ensures ∙ c.if-is_empty.false))),
     )
 
@@ -100,25 +100,25 @@ returns-clause-replayed g c =
     let queue = c.args.config.now.queue in
     let names : List FileName = names_in c.args.self.now queue in
     let old = g.F.FileSystem.disk c.args.files.now in
-    let mid = g.F.FileSystem.disk c.recover_queue.new.files in
+    let mid = g.F.FileSystem.disk c.recover_in.new.files in
     let said : map string_bytes c.in_ok-paths.paths.items ≡ directories_in c.args.self.now = c.in_ok-paths.ensures ∙ ap (map string_bytes) c.deref-2.ensures.value in
-    opened_gives c.open.result (g.M.ReplayMachine.has_replayed c.args.machine.now) (g.M.ReplayMachine.has_replayed c.recover_queue.new.machine) queue c.in_ok-paths.paths.items (directories_in c.args.self.now) old mid
+    opened_gives c.open.result (g.M.ReplayMachine.has_replayed c.args.machine.now) (g.M.ReplayMachine.has_replayed c.recover_in.new.machine) queue c.in_ok-paths.paths.items (directories_in c.args.self.now) old mid
     (g.F.FileSystem.disk c.open.new.files) names c.in_ok-recovered.recovered.items said (subst (λ (l : List Text). AreFound old (Log queue) l names) (sym said) c.requires.found)
     (subst (λ (l : List Text). AreRecovered l queue old mid names c.in_ok-recovered.recovered.items) (sym said) c.in_ok-recovered.ensures.ok)
     (ap (list_all (λ f. f.format.alignment == 0)) (sym c.deref.ensures.value) ∙ sym c.are_plain.ensures ∙ c.if-not-are_plain.false)
-    (met.has_images c.recover_queue.new.files)
+    (met.has_images c.recover_in.new.files)
     (omega (arith, ap length c.deref.ensures.value, c.deref.ensures.len, eqb-false (vec_len c.in_ok-recovered.recovered) 0 (sym c.is_empty.ensures ∙ c.if-is_empty.false))) c.in_ok-recovered.ensures.replayed
     c.open.ensures.files c.open.ensures.holds
 
 pub returns-clause-only : goal.returns-clause-only
 returns-clause-only g c =
-    λ some. opened_changes c.open.result (directories_in c.args.self.now) c.args.config.now.queue (g.F.FileSystem.disk c.args.files.now) (g.F.FileSystem.disk c.recover_queue.new.files) (g.F.FileSystem.disk c.open.new.files)
+    λ some. opened_changes c.open.result (directories_in c.args.self.now) c.args.config.now.queue (g.F.FileSystem.disk c.args.files.now) (g.F.FileSystem.disk c.recover_in.new.files) (g.F.FileSystem.disk c.open.new.files)
     (names_in c.args.self.now c.args.config.now.queue) c.in_ok-recovered.recovered.items c.in_ok-recovered.ensures.ok c.open.ensures.files c.open.ensures.changes c.open.ensures.err
 
 pub returns-clause-left : goal.returns-clause-left
 returns-clause-left g c =
     let fs = c.in_ok-recovered.recovered.items in
-    let mid = g.F.FileSystem.disk c.recover_queue.new.files in
+    let mid = g.F.FileSystem.disk c.recover_in.new.files in
     let new = g.F.FileSystem.disk c.open.new.files in
     opened_left (directories_in c.args.self.now) c.args.config.now.queue (g.F.FileSystem.disk c.args.files.now) mid new (names_in c.args.self.now c.args.config.now.queue) fs c.in_ok-recovered.ensures.ok
     (either_way c.open.result (KeepsButHeader mid new fs) c.open.ensures.keeps c.open.ensures.err)
@@ -132,7 +132,7 @@ returns-then-is_empty-clause-aligned g c =
 
 pub returns-clause-aligned : goal.returns-clause-aligned
 returns-clause-aligned g c =
-    λ any. absurd (none_aligned (directories_in c.args.self.now) c.args.config.now.queue (g.F.FileSystem.disk c.args.files.now) (g.F.FileSystem.disk c.recover_queue.new.files) (names_in c.args.self.now c.args.config.now.queue)
+    λ any. absurd (none_aligned (directories_in c.args.self.now) c.args.config.now.queue (g.F.FileSystem.disk c.args.files.now) (g.F.FileSystem.disk c.recover_in.new.files) (names_in c.args.self.now c.args.config.now.queue)
     c.in_ok-recovered.recovered.items c.in_ok-recovered.ensures.ok (ap (list_all (λ f. f.format.alignment == 0)) (sym c.deref.ensures.value) ∙ sym c.are_plain.ensures ∙ c.if-not-are_plain.false) any)
 
 pub returns-then-is_empty-clause-paths : goal.returns-then-is_empty-clause-paths
@@ -153,7 +153,7 @@ returns-then-is_empty-clause-alone g c =
     let said : map string_bytes c.in_ok-paths.paths.items ≡ directories_in c.args.self.now = c.in_ok-paths.ensures ∙ ap (map string_bytes) c.deref-2.ensures.value in
     let none = no_names old (directories_in c.args.self.now) queue names c.in_ok-recovered.recovered.items c.in_ok-recovered.ensures.ok.opened
     (omega (arith, ap length c.deref.ensures.value, c.deref.ensures.len, eqb-true (vec_len c.in_ok-recovered.recovered) 0 (sym c.is_empty.ensures ∙ c.if-is_empty.true))) in
-    created_alone c.create.result old (g.F.FileSystem.disk c.recover_queue.new.files) (g.F.FileSystem.disk c.create.new.files) queue (map string_bytes c.in_ok-paths.paths.items) (directories_in c.args.self.now) names said
+    created_alone c.create.result old (g.F.FileSystem.disk c.recover_in.new.files) (g.F.FileSystem.disk c.create.new.files) queue (map string_bytes c.in_ok-paths.paths.items) (directories_in c.args.self.now) names said
     c.in_ok-recovered.ensures.only.names_stay c.requires.found none c.create.ensures.alone
 
 pub returns-clause-alone : goal.returns-clause-alone
@@ -162,7 +162,7 @@ returns-clause-alone g c =
     let queue = c.args.config.now.queue in
     let old = g.F.FileSystem.disk c.args.files.now in
     let said : map string_bytes c.in_ok-paths.paths.items ≡ directories_in c.args.self.now = c.in_ok-paths.ensures ∙ ap (map string_bytes) c.deref-2.ensures.value in
-    found_alone c.open.result old (g.F.FileSystem.disk c.recover_queue.new.files) (g.F.FileSystem.disk c.open.new.files) queue (map string_bytes c.in_ok-paths.paths.items) (directories_in c.args.self.now)
+    found_alone c.open.result old (g.F.FileSystem.disk c.recover_in.new.files) (g.F.FileSystem.disk c.open.new.files) queue (map string_bytes c.in_ok-paths.paths.items) (directories_in c.args.self.now)
     (names_in c.args.self.now queue) c.in_ok-recovered.recovered.items said (met.is_named c.args.files.now) c.in_ok-recovered.ensures.only.names_stay c.requires.found c.in_ok-recovered.ensures.ok.opened
     (omega (arith, ap length c.deref.ensures.value, c.deref.ensures.len, eqb-false (vec_len c.in_ok-recovered.recovered) 0 (sym c.is_empty.ensures ∙ c.if-is_empty.false))) c.open.ensures.alone
 
@@ -173,8 +173,8 @@ returns-in_err-recovered-clause-again g c =
     let directories = directories_in c.args.self.now in
     let names : List FileName = names_in c.args.self.now queue in
     let old = g.F.FileSystem.disk c.args.files.now in
-    let mid = g.F.FileSystem.disk c.recover_queue.new.files in
-    finds_before c.args.config.now.mode directories queue old mid names (met.is_named c.args.files.now) c.requires.found c.recover_queue.ensures.only c.recover_queue.ensures.reads c.in_err-recovered.ensures.kept
+    let mid = g.F.FileSystem.disk c.recover_in.new.files in
+    finds_before c.args.config.now.mode directories queue old mid names (met.is_named c.args.files.now) c.requires.found c.recover_in.ensures.only c.recover_in.ensures.reads c.in_err-recovered.ensures.kept
 
 pub returns-then-not-are_plain-clause-again : goal.returns-then-not-are_plain-clause-again
 returns-then-not-are_plain-clause-again g c =
@@ -183,8 +183,8 @@ returns-then-not-are_plain-clause-again g c =
     let directories = directories_in c.args.self.now in
     let names : List FileName = names_in c.args.self.now queue in
     let old = g.F.FileSystem.disk c.args.files.now in
-    let mid = g.F.FileSystem.disk c.recover_queue.new.files in
-    finds_before c.args.config.now.mode directories queue old mid names (met.is_named c.args.files.now) c.requires.found c.recover_queue.ensures.only c.recover_queue.ensures.reads
+    let mid = g.F.FileSystem.disk c.recover_in.new.files in
+    finds_before c.args.config.now.mode directories queue old mid names (met.is_named c.args.files.now) c.requires.found c.recover_in.ensures.only c.recover_in.ensures.reads
     (none_keeps c.args.config.now.mode directories queue names old mid (λ any. false≢true (c.in_ok-recovered.ensures.refused any)))
 
 pub returns-in_err-paths-clause-again : goal.returns-in_err-paths-clause-again
@@ -194,8 +194,8 @@ returns-in_err-paths-clause-again g c =
     let directories = directories_in c.args.self.now in
     let names : List FileName = names_in c.args.self.now queue in
     let old = g.F.FileSystem.disk c.args.files.now in
-    let mid = g.F.FileSystem.disk c.recover_queue.new.files in
-    finds_before c.args.config.now.mode directories queue old mid names (met.is_named c.args.files.now) c.requires.found c.recover_queue.ensures.only c.recover_queue.ensures.reads
+    let mid = g.F.FileSystem.disk c.recover_in.new.files in
+    finds_before c.args.config.now.mode directories queue old mid names (met.is_named c.args.files.now) c.requires.found c.recover_in.ensures.only c.recover_in.ensures.reads
     (none_keeps c.args.config.now.mode directories queue names old mid (λ any. false≢true (c.in_ok-recovered.ensures.refused any)))
 
 pub returns-then-is_empty-clause-again : goal.returns-then-is_empty-clause-again
@@ -205,12 +205,12 @@ returns-then-is_empty-clause-again g c =
     let directories = directories_in c.args.self.now in
     let names : List FileName = names_in c.args.self.now queue in
     let old = g.F.FileSystem.disk c.args.files.now in
-    let mid = g.F.FileSystem.disk c.recover_queue.new.files in
+    let mid = g.F.FileSystem.disk c.recover_in.new.files in
     let new = g.F.FileSystem.disk c.create.new.files in
     let none = no_names old directories queue names c.in_ok-recovered.recovered.items c.in_ok-recovered.ensures.ok.opened
     (omega (arith, ap length c.deref.ensures.value, c.deref.ensures.len, eqb-true (vec_len c.in_ok-recovered.recovered) 0 (sym c.is_empty.ensures ∙ c.if-is_empty.true))) in
     let said : map string_bytes c.in_ok-paths.paths.items ≡ directories = c.in_ok-paths.ensures ∙ ap (map string_bytes) c.deref-2.ensures.value in
-    created_before c.args.config.now.mode directories queue old mid new names 1 (met.has_images c.create.new.files) c.requires.found none c.recover_queue.ensures.only
+    created_before c.args.config.now.mode directories queue old mid new names 1 (met.has_images c.create.new.files) c.requires.found none c.recover_in.ensures.only
     (subst (λ (l : List Text). MakesButHeader mid new l (id_of queue 1)) said c.create.ensures.makes)
 
 pub returns-clause-again : goal.returns-clause-again
@@ -220,7 +220,7 @@ returns-clause-again g c =
     let directories = directories_in c.args.self.now in
     let names : List FileName = names_in c.args.self.now queue in
     let old = g.F.FileSystem.disk c.args.files.now in
-    let mid = g.F.FileSystem.disk c.recover_queue.new.files in
+    let mid = g.F.FileSystem.disk c.recover_in.new.files in
     let new = g.F.FileSystem.disk c.open.new.files in
     let fs = c.in_ok-recovered.recovered.items in
     let keeps : KeepsButHeader mid new fs = either_way c.open.result (KeepsButHeader mid new fs) c.open.ensures.keeps c.open.ensures.err in
@@ -236,8 +236,8 @@ returns-in_err-recovered-clause-others g c =
     let directories = directories_in c.args.self.now in
     let names : List FileName = names_in c.args.self.now queue in
     let old = g.F.FileSystem.disk c.args.files.now in
-    let mid = g.F.FileSystem.disk c.recover_queue.new.files in
-    only_others directories queue (length directories) names old mid (met.is_named c.args.files.now) (found_numbered old (Log queue) directories (length directories) names (omega arith) c.requires.found) c.recover_queue.ensures.only
+    let mid = g.F.FileSystem.disk c.recover_in.new.files in
+    only_others directories queue (length directories) names old mid (met.is_named c.args.files.now) (found_numbered old (Log queue) directories (length directories) names (omega arith) c.requires.found) c.recover_in.ensures.only
 
 pub returns-then-not-are_plain-clause-others : goal.returns-then-not-are_plain-clause-others
 returns-then-not-are_plain-clause-others g c =
@@ -246,8 +246,8 @@ returns-then-not-are_plain-clause-others g c =
     let directories = directories_in c.args.self.now in
     let names : List FileName = names_in c.args.self.now queue in
     let old = g.F.FileSystem.disk c.args.files.now in
-    let mid = g.F.FileSystem.disk c.recover_queue.new.files in
-    only_others directories queue (length directories) names old mid (met.is_named c.args.files.now) (found_numbered old (Log queue) directories (length directories) names (omega arith) c.requires.found) c.recover_queue.ensures.only
+    let mid = g.F.FileSystem.disk c.recover_in.new.files in
+    only_others directories queue (length directories) names old mid (met.is_named c.args.files.now) (found_numbered old (Log queue) directories (length directories) names (omega arith) c.requires.found) c.recover_in.ensures.only
 
 pub returns-in_err-paths-clause-others : goal.returns-in_err-paths-clause-others
 returns-in_err-paths-clause-others g c =
@@ -256,8 +256,8 @@ returns-in_err-paths-clause-others g c =
     let directories = directories_in c.args.self.now in
     let names : List FileName = names_in c.args.self.now queue in
     let old = g.F.FileSystem.disk c.args.files.now in
-    let mid = g.F.FileSystem.disk c.recover_queue.new.files in
-    only_others directories queue (length directories) names old mid (met.is_named c.args.files.now) (found_numbered old (Log queue) directories (length directories) names (omega arith) c.requires.found) c.recover_queue.ensures.only
+    let mid = g.F.FileSystem.disk c.recover_in.new.files in
+    only_others directories queue (length directories) names old mid (met.is_named c.args.files.now) (found_numbered old (Log queue) directories (length directories) names (omega arith) c.requires.found) c.recover_in.ensures.only
 
 pub returns-then-is_empty-clause-others : goal.returns-then-is_empty-clause-others
 returns-then-is_empty-clause-others g c =
@@ -266,8 +266,8 @@ returns-then-is_empty-clause-others g c =
     let directories = directories_in c.args.self.now in
     let names : List FileName = names_in c.args.self.now queue in
     let old = g.F.FileSystem.disk c.args.files.now in
-    let mid = g.F.FileSystem.disk c.recover_queue.new.files in
-    let first = only_others directories queue (length directories) names old mid (met.is_named c.args.files.now) (found_numbered old (Log queue) directories (length directories) names (omega arith) c.requires.found) c.recover_queue.ensures.only in
+    let mid = g.F.FileSystem.disk c.recover_in.new.files in
+    let first = only_others directories queue (length directories) names old mid (met.is_named c.args.files.now) (found_numbered old (Log queue) directories (length directories) names (omega arith) c.requires.found) c.recover_in.ensures.only in
     others_on queue queue old mid (g.F.FileSystem.disk c.create.new.files) refl first c.create.ensures.others
 
 pub returns-clause-others : goal.returns-clause-others
@@ -277,7 +277,7 @@ returns-clause-others g c =
     let directories = directories_in c.args.self.now in
     let names : List FileName = names_in c.args.self.now queue in
     let old = g.F.FileSystem.disk c.args.files.now in
-    let mid = g.F.FileSystem.disk c.recover_queue.new.files in
+    let mid = g.F.FileSystem.disk c.recover_in.new.files in
     let new = g.F.FileSystem.disk c.open.new.files in
     let fs = c.in_ok-recovered.recovered.items in
     let keeps : KeepsButHeader mid new fs = either_way c.open.result (KeepsButHeader mid new fs) c.open.ensures.keeps c.open.ensures.err in
@@ -286,7 +286,7 @@ returns-clause-others g c =
 
 pub returns-then-not-are_plain-clause-corrupt : goal.returns-then-not-are_plain-clause-corrupt
 returns-then-not-are_plain-clause-corrupt g c =
-    λ f corrupt. inr (any_aligned (directories_in c.args.self.now) c.args.config.now.queue (g.F.FileSystem.disk c.args.files.now) (g.F.FileSystem.disk c.recover_queue.new.files) (names_in c.args.self.now c.args.config.now.queue)
+    λ f corrupt. inr (any_aligned (directories_in c.args.self.now) c.args.config.now.queue (g.F.FileSystem.disk c.args.files.now) (g.F.FileSystem.disk c.recover_in.new.files) (names_in c.args.self.now c.args.config.now.queue)
     c.in_ok-recovered.recovered.items c.in_ok-recovered.ensures.ok (ap (list_all (λ f. f.format.alignment == 0)) (sym c.deref.ensures.value) ∙ sym c.are_plain.ensures ∙ c.if-not-are_plain.true))
 
 pub returns-in_err-recovered-clause-corrupt : goal.returns-in_err-recovered-clause-corrupt
@@ -322,7 +322,7 @@ returns-then-is_empty-clause-holes g c =
 
 pub returns-clause-holes : goal.returns-clause-holes
 returns-clause-holes g c =
-    holes_opened c.open.result c.args.config.now.mode (directories_in c.args.self.now) c.args.config.now.queue (g.F.FileSystem.disk c.args.files.now) (g.F.FileSystem.disk c.recover_queue.new.files) (g.F.FileSystem.disk c.open.new.files)
+    holes_opened c.open.result c.args.config.now.mode (directories_in c.args.self.now) c.args.config.now.queue (g.F.FileSystem.disk c.args.files.now) (g.F.FileSystem.disk c.recover_in.new.files) (g.F.FileSystem.disk c.open.new.files)
     (names_in c.args.self.now c.args.config.now.queue) c.in_ok-recovered.recovered.items c.in_ok-recovered.ensures.ok (λ any. false≢true (c.in_ok-recovered.ensures.refused any)) c.open.ensures.files c.open.ensures.pipe c.open.ensures.changes
 
 -- ---- what is set to refuse, and why it is refused
@@ -339,10 +339,10 @@ returns-in_err-recovered-clause-cause g c =
     let directories = directories_in c.args.self.now in
     let names : List FileName = names_in c.args.self.now queue in
     let d = g.F.FileSystem.disk c.args.files.now in
-    let y = g.F.FileSystem.disk c.recover_queue.new.files in
+    let y = g.F.FileSystem.disk c.recover_in.new.files in
     let free : Type 0 = g.F.FileSystem.is_bounded c.args.files.now in
     let a = g.F.FileSystem.meter c.args.files.now in
-    let b = g.F.FileSystem.meter c.recover_queue.new.files in
+    let b = g.F.FileSystem.meter c.recover_in.new.files in
     let unread : Type 0 = AnyUnreadable directories queue names a in
     let barred : Type 0 = IsFirstBarred directories queue names y in
     told_cause c.from_residual.result c.in_err-recovered.field-0.0 (λ (e : Error). IsQueueFault directories queue names d y free a b e) c.from_residual.ensures.1
@@ -355,7 +355,7 @@ returns-then-not-are_plain-clause-cause g c = inl (_, refl)
 pub returns-in_err-paths-clause-cause : goal.returns-in_err-paths-clause-cause
 returns-in_err-paths-clause-cause g c =
     let queue = c.args.config.now.queue in
-    let y = c.recover_queue.new.files in
+    let y = c.recover_in.new.files in
     told_cause c.from_residual-in_err-paths.result Memory
     (λ (e : Error). IsQueueFault (directories_in c.args.self.now) queue (names_in c.args.self.now queue) (g.F.FileSystem.disk c.args.files.now) (g.F.FileSystem.disk y) (g.F.FileSystem.is_bounded c.args.files.now) (g.F.FileSystem.meter c.args.files.now) (g.F.FileSystem.meter y) e)
     c.from_residual-in_err-paths.ensures.1 (inr tt)
@@ -367,12 +367,12 @@ returns-then-is_empty-clause-cause g c =
     let names : List FileName = names_in c.args.self.now queue in
     let paths = c.in_ok-paths.paths.items in
     let d = g.F.FileSystem.disk c.args.files.now in
-    let y = g.F.FileSystem.disk c.recover_queue.new.files in
+    let y = g.F.FileSystem.disk c.recover_in.new.files in
     let new = g.F.FileSystem.disk c.create.new.files in
     let free : Type 0 = g.F.FileSystem.is_bounded c.args.files.now in
-    let free_then : Type 0 = g.F.FileSystem.is_bounded c.recover_queue.new.files in
+    let free_then : Type 0 = g.F.FileSystem.is_bounded c.recover_in.new.files in
     let a = g.F.FileSystem.meter c.args.files.now in
-    let b = g.F.FileSystem.meter c.recover_queue.new.files in
+    let b = g.F.FileSystem.meter c.recover_in.new.files in
     let e = g.F.FileSystem.meter c.create.new.files in
     let id = id_of queue 1 in
     let said : map string_bytes paths ≡ directories = c.in_ok-paths.ensures ∙ ap (map string_bytes) c.deref-2.ensures.value in
@@ -393,9 +393,9 @@ returns-clause-cause g c =
     let directories = directories_in c.args.self.now in
     let names : List FileName = names_in c.args.self.now queue in
     let free : Type 0 = g.F.FileSystem.is_bounded c.args.files.now in
-    let free_then : Type 0 = g.F.FileSystem.is_bounded c.recover_queue.new.files in
+    let free_then : Type 0 = g.F.FileSystem.is_bounded c.recover_in.new.files in
     let a = g.F.FileSystem.meter c.args.files.now in
-    let b = g.F.FileSystem.meter c.recover_queue.new.files in
+    let b = g.F.FileSystem.meter c.recover_in.new.files in
     let e = g.F.FileSystem.meter c.open.new.files in
     let barred : Type 0 = IsFirstBarred directories queue names (g.F.FileSystem.disk c.open.new.files) in
     recovery_caused (IsRefusal free_then ⊥ b e) ⊥ (IsRefusal free barred a e ⊎ AnyUnreadable directories queue names a) (IsFirstLacking directories queue names (g.F.FileSystem.disk c.args.files.now)) c.open.result
@@ -411,7 +411,7 @@ returns-in_err-recovered-clause-taken g c = λ none.
     let names : List FileName = names_in c.args.self.now queue in
     let free : Type 0 = g.F.FileSystem.is_bounded c.args.files.now in
     let a = g.F.FileSystem.meter c.args.files.now in
-    taken_of free (IsFirstLacking directories queue names (g.F.FileSystem.disk c.args.files.now)) (IsFirstBarred directories queue names (g.F.FileSystem.disk c.recover_queue.new.files)) (AnyUnreadable directories queue names a) a (g.F.FileSystem.meter c.recover_queue.new.files)
+    taken_of free (IsFirstLacking directories queue names (g.F.FileSystem.disk c.args.files.now)) (IsFirstBarred directories queue names (g.F.FileSystem.disk c.recover_in.new.files)) (AnyUnreadable directories queue names a) a (g.F.FileSystem.meter c.recover_in.new.files)
     c.from_residual.result none (none_unreadable free directories queue names a none) (returns-in_err-recovered-clause-cause g c)
 
 pub returns-then-not-are_plain-clause-taken : goal.returns-then-not-are_plain-clause-taken
@@ -424,7 +424,7 @@ returns-in_err-paths-clause-taken g c = λ none.
     let names : List FileName = names_in c.args.self.now queue in
     let free : Type 0 = g.F.FileSystem.is_bounded c.args.files.now in
     let a = g.F.FileSystem.meter c.args.files.now in
-    taken_of free (IsFirstLacking directories queue names (g.F.FileSystem.disk c.args.files.now)) (IsFirstBarred directories queue names (g.F.FileSystem.disk c.recover_queue.new.files)) (AnyUnreadable directories queue names a) a (g.F.FileSystem.meter c.recover_queue.new.files)
+    taken_of free (IsFirstLacking directories queue names (g.F.FileSystem.disk c.args.files.now)) (IsFirstBarred directories queue names (g.F.FileSystem.disk c.recover_in.new.files)) (AnyUnreadable directories queue names a) a (g.F.FileSystem.meter c.recover_in.new.files)
     c.from_residual-in_err-paths.result none (none_unreadable free directories queue names a none) (returns-in_err-paths-clause-cause g c)
 
 pub returns-then-is_empty-clause-taken : goal.returns-then-is_empty-clause-taken

@@ -8,7 +8,7 @@ use Rattle.raft_log_recovery.specs.Both.{CantBeOpened, IsEitherFault}
 use Rattle.raft_log_recovery.proofs.BothLemmas.{found_of, with_both}
 use Rattle.raft_log_recovery.proofs.CausedLemmas.{either_taken}
 use Rattle.raft_log_recovery.proofs.CorruptLemmas.{passed_on}
-use Rattle.raft_log_recovery.proofs.builder.DualPipesBuilder.recover_alone.Goals as goal
+use Rattle.raft_log_recovery.proofs.builder.DualPipesBuilder.recover_by.Goals as goal
 
 pub open_both-requires-clause-one : goal.open_both-requires-clause-one
 open_both-requires-clause-one g c κs within = found_of c.args.self.now (g.F.FileSystem.disk c.args.files.now) c.first_queue-first.result c.requires.append c.requires.rewrite
