@@ -20,7 +20,8 @@ use Rattle.raft_log_recovery.specs.Scan.{AreFound}
 -- Of the files of one queue between two disks, with what a machine has replayed before and after: after `Ok` each file is whole with
 -- the batches that it read as, and the machine has got them in the order of the files. Refused or not, each file reads as the same
 -- batches, a file with a fault that the mode refuses stays with those behind it, and each error has its cause
-pub record Recovers (before after : List Placed → Type 0) (builder : DualPipesBuilder) (config : RecoveryConfig) (old new : Disk) (bounded bounded_then : Type 0) (meter meter_then : Meter) (result : Result (Vec File Global) Error) : Type 0 where
+pub record Recovers (before after : List Placed → Type 0) (builder : DualPipesBuilder) (config : RecoveryConfig) (old new : Disk) (bounded bounded_then : Type 0) (meter meter_then : Meter)
+    (result : Result (Vec File Global) Error) : Type 0 where
   pub ok : IfOk result (λ v. AreRecovered (directories_in builder) config.queue old new (names_in builder config.queue) v.items)
   pub replayed : IfOk result (λ v. (placed : List Placed) → before placed → (more : List Placed) × after (placed ++ more) × AreReplayed config.queue new v.items more)
   pub only : OnlyChanges (directories_in builder) config.queue (names_in builder config.queue) old new

@@ -4,6 +4,6 @@ use Rattle.raft_log_recovery.proofs.builder.DualPipesBuilder.recover_alone.Goals
 
 pub recover_by-requires-clause-way : goal.recover_by-requires-clause-way
 recover_by-requires-clause-way g c κs within = λ b f config m found. (
-    (found, (record { owned = c.type_bounds.send-F.owned; leaving = λ k x w. lets_go (k (of_param 0)) x w }, record { shared = c.type_bounds.sync-F.shared })),
-    λ r f' m' post. post,
+  (found, (record { owned = c.type_bounds.send-F.owned; leaving = λ k x w. lets_go (k (of_param 0)) x w }, record { shared = c.type_bounds.sync-F.shared })),
+  λ r f' m' post. post,
 )
