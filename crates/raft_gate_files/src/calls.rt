@@ -1,4 +1,5 @@
-//! The calls of files behind a gate: those of the files, but that the first write comes to the gate.
+//! The calls of files behind a gate: those of the files, but that the first write comes to the gate,
+//! and that reads of one of them may wait.
 
 use crate::files::GateFiles;
 use raft_log_disk::{Fd, FileSystem, IoFault, Permission};
@@ -97,8 +98,12 @@ impl FileSystem for GateFiles {
         self.files.available(directory)
     }
 
+    /// Waits before, where it is to be late.
     fn read_at(&self, alloc: Global, fd: Fd, at: u64, len: u64) -> Result<Vec<u8>, IoFault> {
-        self.files.read_at(alloc, fd, at, len)
+        self.wait(fd);
+        let read = self.files.read_at(alloc, fd, at, len);
+        self.note(fd);
+        read
     }
 
     fn file_size(&self, fd: Fd) -> Result<u64, IoFault> {

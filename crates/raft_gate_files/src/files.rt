@@ -1,16 +1,18 @@
 //! Files in memory behind a gate.
 
 use crate::gate::Gate;
-use raft_log_disk::MemoryFileSystem;
+use crate::late::LateRead;
+use raft_log_disk::{Fd, MemoryFileSystem};
 use std::alloc::Global;
 
-/// Files in memory whose first write, once the gate is shut, waits there for that of others. What
-/// the calls do is what they do without a gate.
+/// Files in memory whose first write, once the gate is shut, waits there for that of others. Reads of
+/// one of them may wait for another one. What the calls do is what they do without a gate.
 #[derive(Drop)]
 pub struct GateFiles {
     pub(crate) files: MemoryFileSystem,
     gate: Gate,
     met: Option<bool>,
+    late: Option<LateRead>,
 }
 
 impl GateFiles {
@@ -31,6 +33,7 @@ impl GateFiles {
             files: MemoryFileSystem::new(alloc),
             gate,
             met: None,
+            late: None,
         }
     }
 
@@ -39,6 +42,36 @@ impl GateFiles {
         ensures { result ≡ met_in self.now }
     {
         self.met
+    }
+
+    /// From now on reads of a file wait so.
+    pub fn read_late(&mut self, late: LateRead)
+        ensures files { self.new.files ≡ self.old.files }
+        ensures met { met_in self.new ≡ met_in self.old }
+    {
+        self.late = Some(late);
+    }
+
+    /// Whether a read that was to wait gave up.
+    pub fn gave_up(&self) -> bool {
+        match &self.late {
+            Some(late) => late.gave_up(),
+            None => false,
+        }
+    }
+
+    /// A file is to be read.
+    pub(crate) fn wait(&self, fd: Fd) {
+        if let Some(late) = &self.late {
+            late.wait(fd);
+        }
+    }
+
+    /// A file was read.
+    pub(crate) fn note(&self, fd: Fd) {
+        if let Some(late) = &self.late {
+            late.note(fd);
+        }
     }
 
     /// They come to the gate, where it is shut and they didn't come before.

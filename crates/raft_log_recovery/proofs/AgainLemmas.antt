@@ -14,10 +14,9 @@ use Rattle.raft_log_files.specs.FileName.{IsFileSeq}
 use Rattle.raft_log_files.specs.declared.error.CorruptionFault.{CorruptionFault}
 use Rattle.raft_log_files.specs.declared.recovery.RecoveryMode.{RecoveryMode}
 use Rattle.raft_log_files.specs.declared.recovery.RecoveryMode.TheVariants.{AbsoluteConsistency, TolerateTailCorruption, TolerateAnyCorruption}
-use Rattle.raft_log_file.specs.Reading.{FileBatch, contents}
+use Rattle.raft_log_file.specs.Reading.{contents}
 use Rattle.raft_log_pipe.specs.declared.file.File.{File}
-use Rattle.raft_log_pipe.specs.Alone.{IsMadeAt, IsVacant, Names, StandsAt, path_in}
-use Rattle.raft_log_pipe.specs.Begun.{Changes}
+use Rattle.raft_log_pipe.specs.Alone.{IsVacant, Names, StandsAt, path_in}
 use Rattle.raft_log_pipe.specs.Found.{KeepsButHeader, MakesButHeader}
 use Rattle.raft_log_pipe.specs.Pipe.{Numbered, id_of, numbered}
 use Rattle.raft_log_pipe.proofs.OpenLemmas.{named_apart}
@@ -27,10 +26,10 @@ use Rattle.raft_log_recovery.specs.declared.scan.FileKind.{FileKind}
 use Rattle.raft_log_recovery.specs.declared.scan.FileKind.TheVariants.{Log}
 use Rattle.raft_log_recovery.specs.declared.scan.FileName.{FileName}
 use Rattle.raft_log_recovery.specs.Again.{FindsAsBefore, FindsSound}
-use Rattle.raft_log_recovery.specs.Opening.{batches_of, said_in}
-use Rattle.raft_log_recovery.specs.Queue.{AnyRefused, AreNumbered, AreOpen, AreReadAlike, AreRecovered, HasRefused, IsFileOf, KeepsRefused, OnlyChanges, path_of}
+use Rattle.raft_log_recovery.specs.Opening.{batches_of}
+use Rattle.raft_log_recovery.specs.Queue.{AnyRefused, AreNumbered, AreOpen, AreReadAlike, AreRecovered, IsFileOf, KeepsRefused, OnlyChanges, path_of}
 use Rattle.raft_log_recovery.specs.Repair.{batches_in, cuts_faults, fault_in}
-use Rattle.raft_log_recovery.specs.Scan.{AreFound, AreInDirectories, OnlyMakes, files_named}
+use Rattle.raft_log_recovery.specs.Scan.{AreFound, AreInDirectories}
 use Rattle.raft_log_recovery.proofs.DirectoryLemmas.{makes_none}
 use Rattle.raft_log_recovery.proofs.FoundLemmas.{contained, found_numbered, in_contained, last_found}
 use Rattle.raft_log_recovery.proofs.ImageLemmas.{short_bare}

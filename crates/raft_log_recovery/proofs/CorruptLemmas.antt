@@ -1,5 +1,5 @@
 -- Where an opening answers Corruption.
-use Rattle.std.proofs.Common.{◌≡◌, ℕ, ◌+◌, ◌<◌, ◌≤◌, inl, inr, Bool, true, false, cond, not, nat_lt, eqb, List, [], ◌∷◌, ◌++◌, length, get_or, take, drop, Some, Result, Ok, Err, refl, sym, ap, subst, ◌∙◌, arith, length-drop}
+use Rattle.std.proofs.Common.{◌≡◌, ℕ, ◌+◌, ◌≤◌, inl, inr, Bool, true, false, cond, not, nat_lt, eqb, List, [], ◌∷◌, ◌++◌, length, get_or, take, drop, Some, Result, Ok, Err, refl, sym, ap, subst, ◌∙◌, arith, length-drop}
 use Rattle.std.specs.Prelude.{IsErrAnd, ◌==◌, ◌&&◌}
 use Rattle.std.specs.Int.{w64, from_be_bytes}
 use Rattle.std.specs.List.{AllByRecursion, list_all}
@@ -12,7 +12,7 @@ use Rattle.raft_log_disk.specs.declared.format.LogFileFormat.{LogFileFormat}
 use Rattle.raft_log_disk.specs.declared.format.HeaderFault.{HeaderFault}
 use Rattle.raft_log_disk.specs.declared.format.HeaderFault.TheVariants.{CutShort, NoHeader, BadVersion}
 use Rattle.raft_log_disk.specs.Cause.{Meter}
-use Rattle.raft_log_disk.specs.Disk.{Disk, FileState, IsIn, IsNamed}
+use Rattle.raft_log_disk.specs.Disk.{Disk, FileState, IsNamed}
 use Rattle.raft_log_disk.specs.Format.{header_at, header_len, magic}
 use Rattle.raft_log_disk.specs.Text.{Text, same_text}
 use Rattle.raft_log_file.specs.Errors.{IsOpenFault, IsReadFault}

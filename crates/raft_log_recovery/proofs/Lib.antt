@@ -21,3 +21,4 @@ pub mod BothLemmas
 pub mod CorruptLemmas
 pub mod CausedLemmas
 pub mod HoleLemmas
+pub mod WayLemmas

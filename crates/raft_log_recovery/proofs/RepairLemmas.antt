@@ -1,5 +1,5 @@
 -- What a crash leaves of a file while it is repaired, and what it is then.
-use Rattle.std.proofs.Common.{◌≡◌, inl, inr, ℕ, zero, suc, ◌+◌, ◌-◌, ◌<◌, ◌≤◌, min, max, List, [], ◌∷◌, ◌++◌, length, get_or, take, drop, Option, Some, None, Result, Ok, Err, refl, sym, ap, subst, ◌∙◌, arith, append_assoc, length-append, length-take, length-drop, take-append-drop, ext_get_or}
+use Rattle.std.proofs.Common.{◌≡◌, inl, inr, ℕ, ◌+◌, ◌-◌, ◌<◌, ◌≤◌, min, max, List, [], ◌∷◌, ◌++◌, length, get_or, take, drop, Option, Some, None, Result, Ok, Err, refl, sym, ap, subst, ◌∙◌, arith, append_assoc, length-append, length-take, length-drop, take-append-drop, ext_get_or}
 use Rattle.std.specs.Prelude.{MatchResult, OnErr, OnOk, replicate}
 use Rattle.std.proofs.lemmas.List.{append-nil, drop_at, drop-drop, drop-take, get_or-take, length-replicate, take-take, take_all}
 use Rattle.raft_log_records.specs.declared.file_id.FileId.{FileId}

@@ -8,3 +8,4 @@ pub mod Again
 pub mod Both
 pub mod Caused
 pub mod Holes
+pub mod Ways

@@ -12,13 +12,15 @@ ghost use Rattle.raft_log_records.specs.declared.file_id.LogQueue.TheVariants.{A
 ghost use Rattle.raft_log_recovery.specs.Both.{AreOpened, ArePipesWith, AreTaken, CantBeOpened, HasFewHoles, HaveFewHoles, IsEitherFault, IsFaultOf, IsFoundBy, IsOpened, LeavesBoth, LeavesQueue};
 ghost use Rattle.raft_log_recovery.specs.Opening.{IsPipeWith};
 ghost use Rattle.raft_log_recovery.specs.Queue.{ChangesAtMost, directories_in, names_in};
+ghost use Rattle.raft_log_recovery.specs.declared.scan.FileKind.TheVariants.{Log};
 ghost use Rattle.raft_log_recovery.specs.Replay.{Placed};
-ghost use Rattle.raft_log_recovery.specs.Scan.{directories_of};
+ghost use Rattle.raft_log_recovery.specs.Scan.{AreFound, directories_of};
+ghost use Rattle.raft_log_recovery.specs.Ways.{IsWay, Recovers};
 
 use crate::builder::DualPipesBuilder;
 use crate::machine::{Factory, ReplayMachine};
 use raft_log_files::{Error, FileSystem, RecoveryConfig};
-use raft_log_pipe::SinglePipe;
+use raft_log_pipe::{File, SinglePipe};
 use raft_log_pipes::DualPipes;
 use raft_log_records::LogQueue;
 
@@ -46,13 +48,13 @@ fn paired(first: LogQueue, one: SinglePipe, two: SinglePipe) -> DualPipes
 }
 
 impl DualPipesBuilder {
-    /// Opens one queue as the settings say, with one worker.
-    fn open_alone<F: FileSystem, M: ReplayMachine>(
-        &self,
-        files: &mut F,
-        queue: LogQueue,
-        machine: &mut M,
-    ) -> Result<SinglePipe, Error>
+    /// Opens one queue as the settings say.
+    fn open_one<
+        F: FileSystem,
+        M: ReplayMachine,
+        W: Fn(&DualPipesBuilder, &mut F, &RecoveryConfig, &mut M) -> Result<Vec<File>, Error>,
+    >(&self, way: &W, files: &mut F, queue: LogQueue, machine: &mut M) -> Result<SinglePipe, Error>
+        requires way { IsWay (W.pre way.now) (W.post way.now) F.disk F.meter F.is_bounded M.has_replayed }
         requires found { IsFoundBy self.now queue (F.disk files.old) }
         requires directories { directories_in self.now ≡ directories_of (settings_of self.now.config) }
         ensures opened { IfOk result (IsOpened self.now queue (F.disk files.old) (F.disk files.new)) }
@@ -71,19 +73,19 @@ impl DualPipesBuilder {
         let config = RecoveryConfig {
             queue,
             mode: self.config.recovery_mode,
-            concurrency: 1,
+            concurrency: self.config.recovery_threads,
             read_block_size: self.config.recovery_read_block_size.0,
         };
-        self.open_queue(files, &config, machine)
+        self.open_by(way, files, &config, machine)
     }
 
     /// Opens one queue, and then the other.
-    fn open_both<F: FileSystem, M: ReplayMachine>(
-        &self,
-        files: &mut F,
-        first: LogQueue,
-        machine: &mut M,
-    ) -> Result<DualPipes, Error>
+    fn open_both<
+        F: FileSystem,
+        M: ReplayMachine,
+        W: Fn(&DualPipesBuilder, &mut F, &RecoveryConfig, &mut M) -> Result<Vec<File>, Error>,
+    >(&self, way: &W, files: &mut F, first: LogQueue, machine: &mut M) -> Result<DualPipes, Error>
+        requires way { IsWay (W.pre way.now) (W.post way.now) F.disk F.meter F.is_bounded M.has_replayed }
         requires one { IsFoundBy self.now first (F.disk files.old) }
         requires two { IsFoundBy self.now (other_queue first) (F.disk files.old) }
         requires directories { directories_in self.now ≡ directories_of (settings_of self.now.config) }
@@ -99,8 +101,8 @@ impl DualPipesBuilder {
         ensures later { RefusesNoMore (F.is_bounded files.old) (F.is_bounded files.new) (F.meter files.old) (F.meter files.new) }
         ensures cause { IfErr result (λ e. IsEitherFault self.now (F.disk files.old) (F.disk files.new) (F.is_bounded files.old) (F.meter files.old) (F.meter files.new) e) }
     {
-        let one = self.open_alone(files, first, machine)?;
-        let two = self.open_alone(files, other_of(first), machine)?;
+        let one = self.open_one(way, files, first, machine)?;
+        let two = self.open_one(way, files, other_of(first), machine)?;
         Ok(paired(first, one, two))
     }
 
@@ -115,13 +117,42 @@ impl DualPipesBuilder {
         }
     }
 
+    /// Recovers the files of both queues that `scan` found in this way, and opens the pipes over them
+    /// (own; raft-engine's `recover` and `finish`): a way does with a queue's files what
+    /// `recover_queue` does. The rewrite queue comes first, so that one machine
+    /// replays its batches, and then those of the append queue. But where the append queue has no
+    /// files, so that nothing of it is replayed, its first file is made before those of the rewrite
+    /// queue are opened. Errors are those of either queue, and `Memory`. Refused or not, an opening
+    /// that follows finds no other batches of either queue than one before would have.
+    pub fn recover_by<
+        F: FileSystem,
+        M: ReplayMachine + Drop,
+        T: Factory<M>,
+        W: Fn(&DualPipesBuilder, &mut F, &RecoveryConfig, &mut M) -> Result<Vec<File>, Error>,
+    >(&self, way: &W, files: &mut F, factory: &T) -> Result<(DualPipes, M), Error>
+        requires way { IsWay (W.pre way.now) (W.post way.now) F.disk F.meter F.is_bounded M.has_replayed }
+        requires append { IsFoundBy self.now Append (F.disk files.old) }
+        requires rewrite { IsFoundBy self.now Rewrite (F.disk files.old) }
+        requires directories { directories_in self.now ≡ directories_of (settings_of self.now.config) }
+        ensures pipes { IfOk result (λ r. ArePipes r.0 (F.disk files.new)) }
+        ensures opened { IfOk result (λ r. AreOpened self.now (F.disk files.old) (F.disk files.new) r.0) }
+        ensures replayed { IfOk result (λ r. (all : List Placed) × M.has_replayed r.1 all × ArePipesWith self.now (F.disk files.old) (F.disk files.new) r.0 all) }
+        ensures leaves { LeavesBoth self.now.config.recovery_mode self.now (F.disk files.old) (F.disk files.new) }
+        ensures refused { (queue : LogQueue) → CantBeOpened self.now.config.recovery_mode self.now queue (F.disk files.old) → IsErr result }
+        ensures corrupt { (f : CorruptionFault) → result ≡ Err (Corruption f) → (queue : LogQueue) × CantBeOpened self.now.config.recovery_mode self.now queue (F.disk files.old) }
+        ensures holes { IfOk result (λ r. HaveFewHoles self.now (F.disk files.old) (F.disk files.new) r.0) }
+        ensures later { RefusesNoMore (F.is_bounded files.old) (F.is_bounded files.new) (F.meter files.old) (F.meter files.new) }
+        ensures cause { IfErr result (λ e. IsEitherFault self.now (F.disk files.old) (F.disk files.new) (F.is_bounded files.old) (F.meter files.old) (F.meter files.new) e) }
+        ensures taken { NothingRefuses (F.is_bounded files.old) (F.meter files.old) → AreTaken self.now (F.disk files.old) (F.disk files.new) result }
+    {
+        let mut machine = factory.new_target();
+        let first = self.first_queue();
+        let pipes = self.open_both(way, files, first, &mut machine)?;
+        Ok((pipes, machine))
+    }
+
     /// Recovers the files of both queues that `scan` found, with one worker, and opens the pipes
-    /// over them (own; raft-engine's `recover` and `finish`). The rewrite queue comes first, so that
-    /// one machine replays its batches, and then those of the append queue, as they are read. But
-    /// where the append queue has no files, so that nothing of it is replayed, its first file is made
-    /// before those of the rewrite queue are opened. Errors are those of either queue, and `Memory`.
-    /// Refused or not, an opening that follows finds no other batches of either queue than one before
-    /// would have.
+    /// over them (own): as `recover_by` does.
     pub fn recover_alone<F: FileSystem, M: ReplayMachine + Drop, T: Factory<M>>(
         &self,
         files: &mut F,
@@ -141,9 +172,17 @@ impl DualPipesBuilder {
         ensures cause { IfErr result (λ e. IsEitherFault self.now (F.disk files.old) (F.disk files.new) (F.is_bounded files.old) (F.meter files.old) (F.meter files.new) e) }
         ensures taken { NothingRefuses (F.is_bounded files.old) (F.meter files.old) → AreTaken self.now (F.disk files.old) (F.disk files.new) result }
     {
-        let mut machine = factory.new_target();
-        let first = self.first_queue();
-        let pipes = self.open_both(files, first, &mut machine)?;
-        Ok((pipes, machine))
+        self.recover_by(
+            &|builder: &DualPipesBuilder, files: &mut F, config: &RecoveryConfig, machine: &mut M| -> Result<
+                Vec<File>,
+                Error,
+            >
+                requires { AreFound (F.disk files.now) (Log config.now.queue) (directories_in builder.now) (names_in builder.now config.now.queue) }
+                ensures { Recovers (M.has_replayed machine.entry.now) (M.has_replayed machine.exit.now) builder.entry.now config.entry.now (F.disk files.entry.now) (F.disk files.exit.now)
+                    (F.is_bounded files.entry.now) (F.is_bounded files.exit.now) (F.meter files.entry.now) (F.meter files.exit.now) result }
+            { builder.recover_in_turn(files, config, machine) },
+            files,
+            factory,
+        )
     }
 }

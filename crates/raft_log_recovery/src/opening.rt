@@ -17,6 +17,7 @@ ghost use Rattle.raft_log_recovery.specs.Holes.{HolesOnlyBroken};
 ghost use Rattle.raft_log_recovery.specs.Replay.{Placed};
 ghost use Rattle.raft_log_recovery.specs.Queue.{AnyRefused, AreLeft, ChangesAtMost, KeepsRefused, directories_in, names_in};
 ghost use Rattle.raft_log_recovery.specs.Opening.{AnyAligned, IsPipeWith};
+ghost use Rattle.raft_log_recovery.specs.Ways.{IsWay, Recovers};
 
 use crate::builder::DualPipesBuilder;
 use crate::machine::ReplayMachine;
@@ -45,6 +46,97 @@ fn are_plain(found: &[File]) -> bool
 }
 
 impl DualPipesBuilder {
+    /// Recovers the files of a queue one after the other.
+    pub(crate) fn recover_in_turn<F: FileSystem, M: ReplayMachine>(
+        &self,
+        files: &mut F,
+        config: &RecoveryConfig,
+        machine: &mut M,
+    ) -> Result<Vec<File>, Error>
+        requires { AreFound (F.disk files.old) (Log config.now.queue) (directories_in self.now) (names_in self.now config.now.queue) }
+        ensures { Recovers (M.has_replayed machine.old) (M.has_replayed machine.new) self.now config.now (F.disk files.old) (F.disk files.new)
+            (F.is_bounded files.old) (F.is_bounded files.new) (F.meter files.old) (F.meter files.new) result }
+    {
+        self.recover_queue(files, config, machine)
+    }
+
+    /// Recovers them in this way.
+    fn recover_in<
+        F: FileSystem,
+        M: ReplayMachine,
+        W: Fn(&DualPipesBuilder, &mut F, &RecoveryConfig, &mut M) -> Result<Vec<File>, Error>,
+    >(
+        &self,
+        way: &W,
+        files: &mut F,
+        config: &RecoveryConfig,
+        machine: &mut M,
+    ) -> Result<Vec<File>, Error>
+        requires found { AreFound (F.disk files.old) (Log config.now.queue) (directories_in self.now) (names_in self.now config.now.queue) }
+        requires way { IsWay (W.pre way.now) (W.post way.now) F.disk F.meter F.is_bounded M.has_replayed }
+        ensures { Recovers (M.has_replayed machine.old) (M.has_replayed machine.new) self.now config.now (F.disk files.old) (F.disk files.new)
+            (F.is_bounded files.old) (F.is_bounded files.new) (F.meter files.old) (F.meter files.new) result }
+    {
+        way(self, files, config, machine)
+    }
+
+    /// Recovers the files of a queue that `scan` found in this way, and opens the pipe over them.
+    pub(crate) fn open_by<
+        F: FileSystem,
+        M: ReplayMachine,
+        W: Fn(&DualPipesBuilder, &mut F, &RecoveryConfig, &mut M) -> Result<Vec<File>, Error>,
+    >(
+        &self,
+        way: &W,
+        files: &mut F,
+        config: &RecoveryConfig,
+        machine: &mut M,
+    ) -> Result<SinglePipe, Error>
+        requires way { IsWay (W.pre way.now) (W.post way.now) F.disk F.meter F.is_bounded M.has_replayed }
+        requires found { AreFound (F.disk files.old) (Log config.now.queue) (directories_in self.now) (names_in self.now config.now.queue) }
+        requires directories { directories_in self.now ≡ directories_of (settings_of self.now.config) }
+        ensures pipe { IfOk result (λ p. IsPipe p (F.disk files.new)) }
+        ensures queue { IfOk result (λ p. p.queue ≡ config.now.queue) }
+        ensures paths { IfOk result (λ p. directories_of_pipe p ≡ directories_in self.now) }
+        ensures settings { IfOk result (IsSetBy self.now) }
+        ensures alone { IfOk result (λ p. IsOnce (F.disk files.old).names (directories_in self.now) config.now.queue → IsAlone p (F.disk files.new)) }
+        ensures replayed { IfOk result (λ p. (placed : List Placed) → M.has_replayed machine.old placed
+            → (more : List Placed) × M.has_replayed machine.new (placed ++ more)
+            × IsPipeWith (directories_in self.now) config.now.queue (names_in self.now config.now.queue) (F.disk files.old) (F.disk files.new) p more) }
+        ensures only { ChangesAtMost (directories_in self.now) config.now.queue (names_in self.now config.now.queue) (F.disk files.old) (F.disk files.new) }
+        ensures again { FindsAsBefore config.now.mode (directories_in self.now) config.now.queue (F.disk files.old) (F.disk files.new) }
+        ensures others { KeepsOthers config.now.queue (F.disk files.old) (F.disk files.new) }
+        ensures left { AreLeft (directories_in self.now) config.now.queue (names_in self.now config.now.queue) (F.disk files.old) (F.disk files.new) }
+        ensures refused { AnyRefused config.now.mode (directories_in self.now) config.now.queue (names_in self.now config.now.queue) (F.disk files.old) → IsErr result }
+        ensures aligned { AnyAligned (directories_in self.now) config.now.queue (names_in self.now config.now.queue) (F.disk files.old) → IsErr result }
+        ensures kept { OnErr result (KeepsRefused config.now.mode (directories_in self.now) config.now.queue (names_in self.now config.now.queue) (F.disk files.old) (F.disk files.new)) }
+        ensures corrupt { (f : CorruptionFault) → result ≡ Err (Corruption f) → CantBeOpened config.now.mode self.now config.now.queue (F.disk files.old) }
+        ensures holes { IfOk result (HolesOnlyBroken config.now.mode (directories_in self.now) config.now.queue (names_in self.now config.now.queue) (F.disk files.old) (F.disk files.new)) }
+        ensures later { RefusesNoMore (F.is_bounded files.old) (F.is_bounded files.new) (F.meter files.old) (F.meter files.new) }
+        ensures cause { IfErr result (λ e. IsFaultOf self.now config.now.queue (F.disk files.old) (F.disk files.new) (F.is_bounded files.old) (F.meter files.old) (F.meter files.new) e) }
+        ensures taken { NothingRefuses (F.is_bounded files.old) (F.meter files.old) → IsTaken self.now config.now.queue (F.disk files.old) (F.disk files.new) result }
+    {
+        let recovered = self.recover_in(way, files, config, machine)?;
+        if !are_plain(&recovered) {
+            return Err(Error::Corruption(CorruptionFault::Header(HeaderFault::BadVersion)));
+        }
+        let paths = paths_of(self.alloc, &self.directories)?;
+        let queue = config.queue;
+        let format = LogFileFormat::new(self.config.format_version, 0);
+        let target_size = self.config.target_file_size.0;
+        if recovered.is_empty() {
+            return SinglePipe::create(files, self.alloc, queue, paths, format, target_size);
+        }
+        SinglePipe::open(
+            files,
+            self.alloc,
+            queue,
+            paths,
+            format,
+            target_size,
+            recovered,
+        )
+    }
     /// Recovers the files of a queue that `scan` found, as `recover_queue` does, and opens the pipe
     /// over them. A queue that has no files begins with its first one. A file whose header says an
     /// alignment isn't written on: it is `Corruption`, as of a version that the log doesn't write.
@@ -79,25 +171,18 @@ impl DualPipesBuilder {
         ensures cause { IfErr result (λ e. IsFaultOf self.now config.now.queue (F.disk files.old) (F.disk files.new) (F.is_bounded files.old) (F.meter files.old) (F.meter files.new) e) }
         ensures taken { NothingRefuses (F.is_bounded files.old) (F.meter files.old) → IsTaken self.now config.now.queue (F.disk files.old) (F.disk files.new) result }
     {
-        let recovered = self.recover_queue(files, config, machine)?;
-        if !are_plain(&recovered) {
-            return Err(Error::Corruption(CorruptionFault::Header(HeaderFault::BadVersion)));
-        }
-        let paths = paths_of(self.alloc, &self.directories)?;
-        let queue = config.queue;
-        let format = LogFileFormat::new(self.config.format_version, 0);
-        let target_size = self.config.target_file_size.0;
-        if recovered.is_empty() {
-            return SinglePipe::create(files, self.alloc, queue, paths, format, target_size);
-        }
-        SinglePipe::open(
+        self.open_by(
+            &|builder: &DualPipesBuilder, files: &mut F, config: &RecoveryConfig, machine: &mut M| -> Result<
+                Vec<File>,
+                Error,
+            >
+                requires { AreFound (F.disk files.now) (Log config.now.queue) (directories_in builder.now) (names_in builder.now config.now.queue) }
+                ensures { Recovers (M.has_replayed machine.entry.now) (M.has_replayed machine.exit.now) builder.entry.now config.entry.now (F.disk files.entry.now) (F.disk files.exit.now)
+                    (F.is_bounded files.entry.now) (F.is_bounded files.exit.now) (F.meter files.entry.now) (F.meter files.exit.now) result }
+            { builder.recover_in_turn(files, config, machine) },
             files,
-            self.alloc,
-            queue,
-            paths,
-            format,
-            target_size,
-            recovered,
+            config,
+            machine,
         )
     }
 }

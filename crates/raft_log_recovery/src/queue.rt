@@ -22,8 +22,8 @@ use raft_log_pipe::File;
 use raft_log_records::{FileId, LogQueue};
 use std::alloc::Global;
 
-/// Opens a file that was found.
-fn open_file<F: FileSystem>(
+/// Opens a file that was found in one of these directories (own).
+pub fn open_file<F: FileSystem>(
     files: &mut F,
     alloc: Global,
     directories: &[String],
@@ -86,8 +86,20 @@ fn recover_each<F: FileSystem, M: ReplayMachine>(
 }
 
 impl DualPipesBuilder {
-    /// The files of a queue that were found.
-    fn names_of(&self, queue: LogQueue) -> &[FileName]
+    /// Where its calls take their memory (own).
+    pub fn alloc(&self) -> Global {
+        self.alloc
+    }
+
+    /// The directories in which files were found, as the `path_id` of a `FileName` counts them (own).
+    pub fn directories(&self) -> &[String]
+        ensures { result.now ≡ self.now.directories.items }
+    {
+        &self.directories
+    }
+
+    /// The files of a queue that were found (own).
+    pub fn names_of(&self, queue: LogQueue) -> &[FileName]
         ensures { result.now ≡ names_in self.now queue }
     {
         match queue {

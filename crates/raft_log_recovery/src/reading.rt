@@ -16,9 +16,9 @@ use raft_log_files::{CorruptionFault, Error, Fd, FileSystem, LogFileFormat};
 use raft_log_records::{FileBlockHandle, FileId, RecordFault, Version};
 use std::alloc::Global;
 
-/// What was read of a whole file.
+/// What was read of a whole file (own).
 #[derive(Clone, Copy, Debug, PartialEq, Eq)]
-pub(crate) struct ReadFile {
+pub struct ReadFile {
     /// What the header says; version 1 where it is broken.
     pub format: LogFileFormat,
     pub end: FileEnd,
@@ -57,8 +57,9 @@ fn replay_left<F: FileSystem, M: ReplayMachine>(
     }
 }
 
-/// Replays the batches of a file up to the first fault.
-pub(crate) fn replay_file<F: FileSystem, M: ReplayMachine>(
+/// Replays the batches of a file up to the first fault (own). The file is read by blocks of
+/// `read_block_size` bytes, and stays as it is. A fault of the file is no error here.
+pub fn replay_file<F: FileSystem, M: ReplayMachine>(
     files: &F,
     alloc: Global,
     machine: &mut M,

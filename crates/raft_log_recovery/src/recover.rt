@@ -11,7 +11,7 @@ ghost use Rattle.raft_log_recovery.specs.Replay.{Placed, ArePlaced};
 
 use crate::machine::ReplayMachine;
 use crate::reading::replay_file;
-use crate::repair::repair;
+use crate::repair::repair_file;
 use raft_log_files::{Error, Fd, FileSystem, LogFileFormat, RecoveryConfig};
 use raft_log_records::FileId;
 use std::alloc::Global;
@@ -45,6 +45,6 @@ pub fn recover_file<F: FileSystem, M: ReplayMachine>(
     ensures taken { NothingRefuses (F.is_bounded files.old) (F.meter files.old) → IsRecoveryTaken ⊥ ⊥ result }
 {
     let read = replay_file(files, alloc, machine, id, fd, config.read_block_size)?;
-    repair(files, id, fd, read.end, config.mode, is_last)?;
+    repair_file(files, id, fd, read.end, config.mode, is_last)?;
     Ok(read.format)
 }

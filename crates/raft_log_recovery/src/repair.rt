@@ -42,18 +42,18 @@ fn settle<F: FileSystem>(files: &mut F, fd: Fd, cut: Option<u64>) -> Result<(), 
     }
 }
 
-/// How far the whole records of a file reach, and the fault behind them.
+/// How far the whole records of a file reach, and the fault behind them (own).
 #[derive(Clone, Copy, Debug, PartialEq, Eq)]
-pub(crate) struct FileEnd {
+pub struct FileEnd {
     /// The file's bytes before that place: 0 where its header is broken.
     pub to: u64,
     pub fault: Option<CorruptionFault>,
 }
 
-/// Leaves of a file the batches that it reads as, and nothing else, all of them on the disk. A
-/// fault behind them is cut away where the mode says so: else it is `Corruption`, and nothing
-/// changes.
-pub(crate) fn repair<F: FileSystem>(
+/// Leaves of a file the batches that it reads as, and nothing else, all of them on the disk (own):
+/// `end` tells how it was read. A fault behind them is cut away where the mode says so: else it is
+/// `Corruption`, and nothing changes.
+pub fn repair_file<F: FileSystem>(
     files: &mut F,
     id: FileId,
     fd: Fd,

@@ -17,8 +17,8 @@ use Rattle.raft_log_recovery.proofs.recover.recover_file.Goals as goal
 pub returns-in_err-read-clause-err : goal.returns-in_err-read-clause-err
 returns-in_err-read-clause-err g c = at_err _ _ (stopped_same (g.F.FileSystem.disk c.args.files.now) _ c.args.id c.args.fd.0 refl)
 
-pub repair-requires-clause-fits : goal.repair-requires-clause-fits
-repair-requires-clause-fits g c κs within =
+pub repair_file-requires-clause-fits : goal.repair_file-requires-clause-fits
+repair_file-requires-clause-fits g c κs within =
     let met = g.met.F.FileSystem g.world.𝓛 g.world.𝓜 g.world.𝓡 ((λ s x. x), (λ x. x), (λ x. x), λ x. x) in
     file_fits (g.F.FileSystem.disk c.args.files.now) c.args.fd.0 (met.has_images c.args.files.now) c.requires
 
@@ -26,12 +26,12 @@ pub returns-clause-replayed : goal.returns-clause-replayed
 returns-clause-replayed g c =
     let met = g.met.F.FileSystem g.world.𝓛 g.world.𝓜 g.world.𝓡 ((λ s x. x), (λ x. x), (λ x. x), λ x. x) in
     repaired_placed (g.M.ReplayMachine.has_replayed c.args.machine.now) (g.M.ReplayMachine.has_replayed c.replay_file.new.machine) (g.F.FileSystem.disk c.args.files.now) _ c.args.id c.args.fd.0
-    (file_fits (g.F.FileSystem.disk c.args.files.now) c.args.fd.0 (met.has_images c.args.files.now) c.requires) c.in_ok-repair.ensures.ok c.in_ok-read.ensures.replayed
+    (file_fits (g.F.FileSystem.disk c.args.files.now) c.args.fd.0 (met.has_images c.args.files.now) c.requires) c.in_ok-repair_file.ensures.ok c.in_ok-read.ensures.replayed
 
-pub returns-in_err-repair-clause-corrupt : goal.returns-in_err-repair-clause-corrupt
-returns-in_err-repair-clause-corrupt g c =
+pub returns-in_err-repair_file-clause-corrupt : goal.returns-in_err-repair_file-clause-corrupt
+returns-in_err-repair_file-clause-corrupt g c =
     passed_on (λ (f : CorruptionFault). (fault_in c.args.id ((g.F.FileSystem.disk c.args.files.now).file c.args.fd.0).bytes ≡ Some f) × (cuts_faults c.args.config.now.mode c.args.is_last ≡ false))
-    c.in_err-repair.field-0.0 c.from_residual-in_err-repair.result c.from_residual-in_err-repair.ensures.1 (λ f same. c.in_err-repair.ensures.corrupt f (λ i. Err (same i)))
+    c.in_err-repair_file.field-0.0 c.from_residual-in_err-repair_file.result c.from_residual-in_err-repair_file.ensures.1 (λ f same. c.in_err-repair_file.ensures.corrupt f (λ i. Err (same i)))
 
 pub returns-in_err-read-clause-cause : goal.returns-in_err-read-clause-cause
 returns-in_err-read-clause-cause g c =
@@ -42,14 +42,14 @@ returns-in_err-read-clause-cause g c =
     told_cause c.from_residual.result c.in_err-read.field-0.0 (λ (e : Error). IsFileFault d c.args.fd.0 free m m e) c.from_residual.ensures.1
     (recovery_for unread ⊥ (IsRefusal free ⊥ m m ⊎ unread) ⊥ c.in_err-read.field-0.0 (λ x. inr x) (λ x. x) (replay_cause d m c.args.fd.0 c.in_err-read.field-0.0 c.requires c.in_err-read.ensures.err))
 
-pub returns-in_err-repair-clause-cause : goal.returns-in_err-repair-clause-cause
-returns-in_err-repair-clause-cause g c =
+pub returns-in_err-repair_file-clause-cause : goal.returns-in_err-repair_file-clause-cause
+returns-in_err-repair_file-clause-cause g c =
     let d = g.F.FileSystem.disk c.args.files.now in
     let a = g.F.FileSystem.meter c.args.files.now in
-    let b = g.F.FileSystem.meter c.repair.new.files in
+    let b = g.F.FileSystem.meter c.repair_file.new.files in
     let refused : Type 0 = IsRefusal (g.F.FileSystem.is_bounded c.args.files.now) ⊥ a b in
-    told_cause c.from_residual-in_err-repair.result c.in_err-repair.field-0.0 (λ (e : Error). IsFileFault d c.args.fd.0 (g.F.FileSystem.is_bounded c.args.files.now) a b e) c.from_residual-in_err-repair.ensures.1
-    (recovery_for refused (IsNoFile d c.args.fd.0) (refused ⊎ HasOneOf d c.args.fd.0 a.unreadable) ⊥ c.in_err-repair.field-0.0 (λ x. inl x) c.requires c.in_err-repair.ensures.cause)
+    told_cause c.from_residual-in_err-repair_file.result c.in_err-repair_file.field-0.0 (λ (e : Error). IsFileFault d c.args.fd.0 (g.F.FileSystem.is_bounded c.args.files.now) a b e) c.from_residual-in_err-repair_file.ensures.1
+    (recovery_for refused (IsNoFile d c.args.fd.0) (refused ⊎ HasOneOf d c.args.fd.0 a.unreadable) ⊥ c.in_err-repair_file.field-0.0 (λ x. inl x) c.requires c.in_err-repair_file.ensures.cause)
 
 -- ---- where nothing is set to refuse
 
@@ -60,10 +60,10 @@ returns-in_err-read-clause-taken g c = λ none.
     let m = g.F.FileSystem.meter c.args.files.now in
     taken_of free ⊥ ⊥ (HasOneOf d c.args.fd.0 m.unreadable) m m c.from_residual.result none (all_readable free d c.args.fd.0 m none) (returns-in_err-read-clause-cause g c)
 
-pub returns-in_err-repair-clause-taken : goal.returns-in_err-repair-clause-taken
-returns-in_err-repair-clause-taken g c = λ none.
+pub returns-in_err-repair_file-clause-taken : goal.returns-in_err-repair_file-clause-taken
+returns-in_err-repair_file-clause-taken g c = λ none.
     let free : Type 0 = g.F.FileSystem.is_bounded c.args.files.now in
     let d = g.F.FileSystem.disk c.args.files.now in
     let a = g.F.FileSystem.meter c.args.files.now in
-    taken_of free ⊥ ⊥ (HasOneOf d c.args.fd.0 a.unreadable) a (g.F.FileSystem.meter c.repair.new.files) c.from_residual-in_err-repair.result none (all_readable free d c.args.fd.0 a none)
-    (returns-in_err-repair-clause-cause g c)
+    taken_of free ⊥ ⊥ (HasOneOf d c.args.fd.0 a.unreadable) a (g.F.FileSystem.meter c.repair_file.new.files) c.from_residual-in_err-repair_file.result none (all_readable free d c.args.fd.0 a none)
+    (returns-in_err-repair_file-clause-cause g c)

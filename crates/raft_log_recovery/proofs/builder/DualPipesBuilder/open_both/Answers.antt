@@ -16,35 +16,35 @@ use Rattle.raft_log_recovery.proofs.CausedLemmas.{fault_then}
 use Rattle.raft_log_recovery.proofs.CorruptLemmas.{cant_before, passed_on}
 use Rattle.raft_log_recovery.proofs.builder.DualPipesBuilder.open_both.Goals as goal
 
-pub open_alone-requires-2-clause-found : goal.open_alone-requires-2-clause-found
-open_alone-requires-2-clause-found g c κs within =
+pub open_one-requires-2-clause-found : goal.open_one-requires-2-clause-found
+open_one-requires-2-clause-found g c κs within =
     let met = g.met.F.FileSystem g.world.𝓛 g.world.𝓜 g.world.𝓡 ((λ s x. x), (λ x. x), (λ x. x), λ x. x) in
-    subst (λ (q : LogQueue). IsFoundBy c.args.self.now q (g.F.FileSystem.disk c.open_alone.new.files)) (sym c.other_of.ensures) (found_still c.args.self.now.config.recovery_mode c.args.self.now c.args.first (g.F.FileSystem.disk c.args.files.now) (g.F.FileSystem.disk c.open_alone.new.files) (met.is_named c.args.files.now) (met.is_named c.open_alone.new.files) c.requires.one c.requires.two c.open_alone.ensures.others)
+    subst (λ (q : LogQueue). IsFoundBy c.args.self.now q (g.F.FileSystem.disk c.open_one.new.files)) (sym c.other_of.ensures) (found_still c.args.self.now.config.recovery_mode c.args.self.now c.args.first (g.F.FileSystem.disk c.args.files.now) (g.F.FileSystem.disk c.open_one.new.files) (met.is_named c.args.files.now) (met.is_named c.open_one.new.files) c.requires.one c.requires.two c.open_one.ensures.others)
 
 pub returns-in_err-one-clause-leaves : goal.returns-in_err-one-clause-leaves
 returns-in_err-one-clause-leaves g c =
     let met = g.met.F.FileSystem g.world.𝓛 g.world.𝓜 g.world.𝓡 ((λ s x. x), (λ x. x), (λ x. x), λ x. x) in
-    first_leaves c.args.self.now.config.recovery_mode c.args.self.now c.args.first (g.F.FileSystem.disk c.args.files.now) (g.F.FileSystem.disk c.open_alone.new.files) (met.is_named c.args.files.now) (met.is_named c.open_alone.new.files) c.requires.one c.requires.two c.open_alone.ensures.others c.open_alone.ensures.leaves
+    first_leaves c.args.self.now.config.recovery_mode c.args.self.now c.args.first (g.F.FileSystem.disk c.args.files.now) (g.F.FileSystem.disk c.open_one.new.files) (met.is_named c.args.files.now) (met.is_named c.open_one.new.files) c.requires.one c.requires.two c.open_one.ensures.others c.open_one.ensures.leaves
 
 pub returns-in_err-two-clause-leaves : goal.returns-in_err-two-clause-leaves
 returns-in_err-two-clause-leaves g c =
     let met = g.met.F.FileSystem g.world.𝓛 g.world.𝓜 g.world.𝓡 ((λ s x. x), (λ x. x), (λ x. x), λ x. x) in
-    both_leave c.args.self.now.config.recovery_mode c.args.self.now c.args.first (g.F.FileSystem.disk c.args.files.now) (g.F.FileSystem.disk c.open_alone.new.files) (met.is_named c.args.files.now) (met.is_named c.open_alone.new.files) c.requires.one c.requires.two c.open_alone.ensures.others (g.F.FileSystem.disk c.open_alone-2.new.files) (met.is_named c.open_alone-2.new.files) (subst (λ (q : LogQueue). KeepsOthers q (g.F.FileSystem.disk c.open_alone.new.files) (g.F.FileSystem.disk c.open_alone-2.new.files)) c.other_of.ensures c.open_alone-2.ensures.others) c.open_alone.ensures.leaves c.open_alone.ensures.only (subst (λ (q : LogQueue). LeavesQueue c.args.self.now.config.recovery_mode (directories_in c.args.self.now) q (names_in c.args.self.now q) (g.F.FileSystem.disk c.open_alone.new.files) (g.F.FileSystem.disk c.open_alone-2.new.files)) c.other_of.ensures c.open_alone-2.ensures.leaves)
+    both_leave c.args.self.now.config.recovery_mode c.args.self.now c.args.first (g.F.FileSystem.disk c.args.files.now) (g.F.FileSystem.disk c.open_one.new.files) (met.is_named c.args.files.now) (met.is_named c.open_one.new.files) c.requires.one c.requires.two c.open_one.ensures.others (g.F.FileSystem.disk c.open_one-2.new.files) (met.is_named c.open_one-2.new.files) (subst (λ (q : LogQueue). KeepsOthers q (g.F.FileSystem.disk c.open_one.new.files) (g.F.FileSystem.disk c.open_one-2.new.files)) c.other_of.ensures c.open_one-2.ensures.others) c.open_one.ensures.leaves c.open_one.ensures.only (subst (λ (q : LogQueue). LeavesQueue c.args.self.now.config.recovery_mode (directories_in c.args.self.now) q (names_in c.args.self.now q) (g.F.FileSystem.disk c.open_one.new.files) (g.F.FileSystem.disk c.open_one-2.new.files)) c.other_of.ensures c.open_one-2.ensures.leaves)
 
 pub returns-clause-leaves : goal.returns-clause-leaves
 returns-clause-leaves g c =
     let met = g.met.F.FileSystem g.world.𝓛 g.world.𝓜 g.world.𝓡 ((λ s x. x), (λ x. x), (λ x. x), λ x. x) in
-    both_leave c.args.self.now.config.recovery_mode c.args.self.now c.args.first (g.F.FileSystem.disk c.args.files.now) (g.F.FileSystem.disk c.open_alone.new.files) (met.is_named c.args.files.now) (met.is_named c.open_alone.new.files) c.requires.one c.requires.two c.open_alone.ensures.others (g.F.FileSystem.disk c.open_alone-2.new.files) (met.is_named c.open_alone-2.new.files) (subst (λ (q : LogQueue). KeepsOthers q (g.F.FileSystem.disk c.open_alone.new.files) (g.F.FileSystem.disk c.open_alone-2.new.files)) c.other_of.ensures c.open_alone-2.ensures.others) c.open_alone.ensures.leaves c.open_alone.ensures.only (subst (λ (q : LogQueue). LeavesQueue c.args.self.now.config.recovery_mode (directories_in c.args.self.now) q (names_in c.args.self.now q) (g.F.FileSystem.disk c.open_alone.new.files) (g.F.FileSystem.disk c.open_alone-2.new.files)) c.other_of.ensures c.open_alone-2.ensures.leaves)
+    both_leave c.args.self.now.config.recovery_mode c.args.self.now c.args.first (g.F.FileSystem.disk c.args.files.now) (g.F.FileSystem.disk c.open_one.new.files) (met.is_named c.args.files.now) (met.is_named c.open_one.new.files) c.requires.one c.requires.two c.open_one.ensures.others (g.F.FileSystem.disk c.open_one-2.new.files) (met.is_named c.open_one-2.new.files) (subst (λ (q : LogQueue). KeepsOthers q (g.F.FileSystem.disk c.open_one.new.files) (g.F.FileSystem.disk c.open_one-2.new.files)) c.other_of.ensures c.open_one-2.ensures.others) c.open_one.ensures.leaves c.open_one.ensures.only (subst (λ (q : LogQueue). LeavesQueue c.args.self.now.config.recovery_mode (directories_in c.args.self.now) q (names_in c.args.self.now q) (g.F.FileSystem.disk c.open_one.new.files) (g.F.FileSystem.disk c.open_one-2.new.files)) c.other_of.ensures c.open_one-2.ensures.leaves)
 
 pub returns-clause-pipes : goal.returns-clause-pipes
 returns-clause-pipes g c =
     let met = g.met.F.FileSystem g.world.𝓛 g.world.𝓜 g.world.𝓡 ((λ s x. x), (λ x. x), (λ x. x), λ x. x) in
-    both_pipes c.args.self.now.config.recovery_mode c.args.self.now c.args.first (g.F.FileSystem.disk c.args.files.now) (g.F.FileSystem.disk c.open_alone.new.files) (met.is_named c.args.files.now) (met.is_named c.open_alone.new.files) c.requires.one c.requires.two c.open_alone.ensures.others (g.F.FileSystem.disk c.open_alone-2.new.files) (met.is_named c.open_alone-2.new.files) (subst (λ (q : LogQueue). KeepsOthers q (g.F.FileSystem.disk c.open_alone.new.files) (g.F.FileSystem.disk c.open_alone-2.new.files)) c.other_of.ensures c.open_alone-2.ensures.others) c.in_ok-one.one c.in_ok-two.two c.paired.result c.paired.ensures.one c.paired.ensures.two c.in_ok-one.ensures.opened (subst (λ (q : LogQueue). IsOpened c.args.self.now q (g.F.FileSystem.disk c.open_alone.new.files) (g.F.FileSystem.disk c.open_alone-2.new.files) c.in_ok-two.two) c.other_of.ensures c.in_ok-two.ensures.opened)
+    both_pipes c.args.self.now.config.recovery_mode c.args.self.now c.args.first (g.F.FileSystem.disk c.args.files.now) (g.F.FileSystem.disk c.open_one.new.files) (met.is_named c.args.files.now) (met.is_named c.open_one.new.files) c.requires.one c.requires.two c.open_one.ensures.others (g.F.FileSystem.disk c.open_one-2.new.files) (met.is_named c.open_one-2.new.files) (subst (λ (q : LogQueue). KeepsOthers q (g.F.FileSystem.disk c.open_one.new.files) (g.F.FileSystem.disk c.open_one-2.new.files)) c.other_of.ensures c.open_one-2.ensures.others) c.in_ok-one.one c.in_ok-two.two c.paired.result c.paired.ensures.one c.paired.ensures.two c.in_ok-one.ensures.opened (subst (λ (q : LogQueue). IsOpened c.args.self.now q (g.F.FileSystem.disk c.open_one.new.files) (g.F.FileSystem.disk c.open_one-2.new.files) c.in_ok-two.two) c.other_of.ensures c.in_ok-two.ensures.opened)
 
 pub returns-clause-opened : goal.returns-clause-opened
 returns-clause-opened g c =
     let met = g.met.F.FileSystem g.world.𝓛 g.world.𝓜 g.world.𝓡 ((λ s x. x), (λ x. x), (λ x. x), λ x. x) in
-    both_opened c.args.self.now.config.recovery_mode c.args.self.now c.args.first (g.F.FileSystem.disk c.args.files.now) (g.F.FileSystem.disk c.open_alone.new.files) (met.is_named c.args.files.now) (met.is_named c.open_alone.new.files) c.requires.one c.requires.two c.open_alone.ensures.others (g.F.FileSystem.disk c.open_alone-2.new.files) (met.is_named c.open_alone-2.new.files) (subst (λ (q : LogQueue). KeepsOthers q (g.F.FileSystem.disk c.open_alone.new.files) (g.F.FileSystem.disk c.open_alone-2.new.files)) c.other_of.ensures c.open_alone-2.ensures.others) c.in_ok-one.one c.in_ok-two.two c.paired.result c.paired.ensures.one c.paired.ensures.two c.in_ok-one.ensures.opened (subst (λ (q : LogQueue). IsOpened c.args.self.now q (g.F.FileSystem.disk c.open_alone.new.files) (g.F.FileSystem.disk c.open_alone-2.new.files) c.in_ok-two.two) c.other_of.ensures c.in_ok-two.ensures.opened)
+    both_opened c.args.self.now.config.recovery_mode c.args.self.now c.args.first (g.F.FileSystem.disk c.args.files.now) (g.F.FileSystem.disk c.open_one.new.files) (met.is_named c.args.files.now) (met.is_named c.open_one.new.files) c.requires.one c.requires.two c.open_one.ensures.others (g.F.FileSystem.disk c.open_one-2.new.files) (met.is_named c.open_one-2.new.files) (subst (λ (q : LogQueue). KeepsOthers q (g.F.FileSystem.disk c.open_one.new.files) (g.F.FileSystem.disk c.open_one-2.new.files)) c.other_of.ensures c.open_one-2.ensures.others) c.in_ok-one.one c.in_ok-two.two c.paired.result c.paired.ensures.one c.paired.ensures.two c.in_ok-one.ensures.opened (subst (λ (q : LogQueue). IsOpened c.args.self.now q (g.F.FileSystem.disk c.open_one.new.files) (g.F.FileSystem.disk c.open_one-2.new.files) c.in_ok-two.two) c.other_of.ensures c.in_ok-two.ensures.opened)
 
 pub returns-clause-replayed : goal.returns-clause-replayed
 returns-clause-replayed g c = λ begun.
@@ -54,15 +54,15 @@ returns-clause-replayed g c = λ begun.
       one.0,
       two.0,
       two.1,
-      one_with c.args.self.now.config.recovery_mode c.args.self.now c.args.first (g.F.FileSystem.disk c.args.files.now) (g.F.FileSystem.disk c.open_alone.new.files) (met.is_named c.args.files.now) (met.is_named c.open_alone.new.files) c.requires.one c.requires.two c.open_alone.ensures.others (g.F.FileSystem.disk c.open_alone-2.new.files) (met.is_named c.open_alone-2.new.files) (subst (λ (q : LogQueue). KeepsOthers q (g.F.FileSystem.disk c.open_alone.new.files) (g.F.FileSystem.disk c.open_alone-2.new.files)) c.other_of.ensures c.open_alone-2.ensures.others) c.in_ok-one.one c.in_ok-two.two c.paired.result c.paired.ensures.one c.paired.ensures.two c.in_ok-one.ensures.opened (subst (λ (q : LogQueue). IsOpened c.args.self.now q (g.F.FileSystem.disk c.open_alone.new.files) (g.F.FileSystem.disk c.open_alone-2.new.files) c.in_ok-two.two) c.other_of.ensures c.in_ok-two.ensures.opened) one.0 one.2,
-      two_with c.args.self.now.config.recovery_mode c.args.self.now c.args.first (g.F.FileSystem.disk c.args.files.now) (g.F.FileSystem.disk c.open_alone.new.files) (met.is_named c.args.files.now) (met.is_named c.open_alone.new.files) c.requires.one c.requires.two c.open_alone.ensures.others (g.F.FileSystem.disk c.open_alone-2.new.files) (met.is_named c.open_alone-2.new.files) (subst (λ (q : LogQueue). KeepsOthers q (g.F.FileSystem.disk c.open_alone.new.files) (g.F.FileSystem.disk c.open_alone-2.new.files)) c.other_of.ensures c.open_alone-2.ensures.others) c.in_ok-one.one c.in_ok-two.two c.paired.result c.paired.ensures.one c.paired.ensures.two c.in_ok-one.ensures.opened (subst (λ (q : LogQueue). IsOpened c.args.self.now q (g.F.FileSystem.disk c.open_alone.new.files) (g.F.FileSystem.disk c.open_alone-2.new.files) c.in_ok-two.two) c.other_of.ensures c.in_ok-two.ensures.opened) two.0 (subst (λ (q : LogQueue). IsPipeWith (directories_in c.args.self.now) q (names_in c.args.self.now q) (g.F.FileSystem.disk c.open_alone.new.files) (g.F.FileSystem.disk c.open_alone-2.new.files) c.in_ok-two.two two.0) c.other_of.ensures two.2),
+      one_with c.args.self.now.config.recovery_mode c.args.self.now c.args.first (g.F.FileSystem.disk c.args.files.now) (g.F.FileSystem.disk c.open_one.new.files) (met.is_named c.args.files.now) (met.is_named c.open_one.new.files) c.requires.one c.requires.two c.open_one.ensures.others (g.F.FileSystem.disk c.open_one-2.new.files) (met.is_named c.open_one-2.new.files) (subst (λ (q : LogQueue). KeepsOthers q (g.F.FileSystem.disk c.open_one.new.files) (g.F.FileSystem.disk c.open_one-2.new.files)) c.other_of.ensures c.open_one-2.ensures.others) c.in_ok-one.one c.in_ok-two.two c.paired.result c.paired.ensures.one c.paired.ensures.two c.in_ok-one.ensures.opened (subst (λ (q : LogQueue). IsOpened c.args.self.now q (g.F.FileSystem.disk c.open_one.new.files) (g.F.FileSystem.disk c.open_one-2.new.files) c.in_ok-two.two) c.other_of.ensures c.in_ok-two.ensures.opened) one.0 one.2,
+      two_with c.args.self.now.config.recovery_mode c.args.self.now c.args.first (g.F.FileSystem.disk c.args.files.now) (g.F.FileSystem.disk c.open_one.new.files) (met.is_named c.args.files.now) (met.is_named c.open_one.new.files) c.requires.one c.requires.two c.open_one.ensures.others (g.F.FileSystem.disk c.open_one-2.new.files) (met.is_named c.open_one-2.new.files) (subst (λ (q : LogQueue). KeepsOthers q (g.F.FileSystem.disk c.open_one.new.files) (g.F.FileSystem.disk c.open_one-2.new.files)) c.other_of.ensures c.open_one-2.ensures.others) c.in_ok-one.one c.in_ok-two.two c.paired.result c.paired.ensures.one c.paired.ensures.two c.in_ok-one.ensures.opened (subst (λ (q : LogQueue). IsOpened c.args.self.now q (g.F.FileSystem.disk c.open_one.new.files) (g.F.FileSystem.disk c.open_one-2.new.files) c.in_ok-two.two) c.other_of.ensures c.in_ok-two.ensures.opened) two.0 (subst (λ (q : LogQueue). IsPipeWith (directories_in c.args.self.now) q (names_in c.args.self.now q) (g.F.FileSystem.disk c.open_one.new.files) (g.F.FileSystem.disk c.open_one-2.new.files) c.in_ok-two.two two.0) c.other_of.ensures two.2),
     )
 
 pub returns-clause-refused : goal.returns-clause-refused
 returns-clause-refused g c =
     let met = g.met.F.FileSystem g.world.𝓛 g.world.𝓜 g.world.𝓡 ((λ s x. x), (λ x. x), (λ x. x), λ x. x) in
-    λ queue cant. absurd (neither c.args.self.now.config.recovery_mode c.args.self.now c.args.first (g.F.FileSystem.disk c.args.files.now) (g.F.FileSystem.disk c.open_alone.new.files) (met.is_named c.args.files.now) (met.is_named c.open_alone.new.files) c.requires.one c.requires.two c.open_alone.ensures.others (λ first. false≢true (c.in_ok-one.ensures.refused first))
-    (λ second. false≢true (c.in_ok-two.ensures.refused (subst (λ (q : LogQueue). CantBeOpened c.args.self.now.config.recovery_mode c.args.self.now q (g.F.FileSystem.disk c.open_alone.new.files)) (sym c.other_of.ensures) second))) queue cant)
+    λ queue cant. absurd (neither c.args.self.now.config.recovery_mode c.args.self.now c.args.first (g.F.FileSystem.disk c.args.files.now) (g.F.FileSystem.disk c.open_one.new.files) (met.is_named c.args.files.now) (met.is_named c.open_one.new.files) c.requires.one c.requires.two c.open_one.ensures.others (λ first. false≢true (c.in_ok-one.ensures.refused first))
+    (λ second. false≢true (c.in_ok-two.ensures.refused (subst (λ (q : LogQueue). CantBeOpened c.args.self.now.config.recovery_mode c.args.self.now q (g.F.FileSystem.disk c.open_one.new.files)) (sym c.other_of.ensures) second))) queue cant)
 
 pub returns-in_err-one-clause-corrupt : goal.returns-in_err-one-clause-corrupt
 returns-in_err-one-clause-corrupt g c =
@@ -76,15 +76,15 @@ returns-in_err-two-clause-corrupt g c =
     c.in_err-two.field-0.0 c.from_residual-in_err-two.result c.from_residual-in_err-two.ensures.1
     (λ f same. (
       (other_queue c.args.first),
-      cant_before c.args.self.now.config.recovery_mode c.args.self.now c.args.first (g.F.FileSystem.disk c.args.files.now) (g.F.FileSystem.disk c.open_alone.new.files) (met.is_named c.args.files.now) (met.is_named c.open_alone.new.files) c.requires.two c.open_alone.ensures.others
-          (subst (λ (q : LogQueue). CantBeOpened c.args.self.now.config.recovery_mode c.args.self.now q (g.F.FileSystem.disk c.open_alone.new.files)) c.other_of.ensures (c.in_err-two.ensures.corrupt f (λ i. Err (same i)))),
+      cant_before c.args.self.now.config.recovery_mode c.args.self.now c.args.first (g.F.FileSystem.disk c.args.files.now) (g.F.FileSystem.disk c.open_one.new.files) (met.is_named c.args.files.now) (met.is_named c.open_one.new.files) c.requires.two c.open_one.ensures.others
+          (subst (λ (q : LogQueue). CantBeOpened c.args.self.now.config.recovery_mode c.args.self.now q (g.F.FileSystem.disk c.open_one.new.files)) c.other_of.ensures (c.in_err-two.ensures.corrupt f (λ i. Err (same i)))),
     ))
 
 pub returns-clause-holes : goal.returns-clause-holes
 returns-clause-holes g c = λ begun.
     let met = g.met.F.FileSystem g.world.𝓛 g.world.𝓜 g.world.𝓡 ((λ s x. x), (λ x. x), (λ x. x), λ x. x) in
     let one = c.in_ok-one.ensures.replayed [] begun in
-    both_holes c.args.self.now.config.recovery_mode c.args.self.now c.args.first (g.F.FileSystem.disk c.args.files.now) (g.F.FileSystem.disk c.open_alone.new.files) (met.is_named c.args.files.now) (met.is_named c.open_alone.new.files) c.requires.one c.requires.two c.open_alone.ensures.others (g.F.FileSystem.disk c.open_alone-2.new.files) (met.is_named c.open_alone-2.new.files) (subst (λ (q : LogQueue). KeepsOthers q (g.F.FileSystem.disk c.open_alone.new.files) (g.F.FileSystem.disk c.open_alone-2.new.files)) c.other_of.ensures c.open_alone-2.ensures.others) c.in_ok-one.one c.in_ok-two.two c.paired.result c.paired.ensures.one c.paired.ensures.two c.in_ok-one.ensures.opened (subst (λ (q : LogQueue). IsOpened c.args.self.now q (g.F.FileSystem.disk c.open_alone.new.files) (g.F.FileSystem.disk c.open_alone-2.new.files) c.in_ok-two.two) c.other_of.ensures c.in_ok-two.ensures.opened) one.0 one.2 c.in_ok-one.ensures.holes (subst (λ (q : LogQueue). HolesOnlyBroken c.args.self.now.config.recovery_mode (directories_in c.args.self.now) q (names_in c.args.self.now q) (g.F.FileSystem.disk c.open_alone.new.files) (g.F.FileSystem.disk c.open_alone-2.new.files) c.in_ok-two.two) c.other_of.ensures c.in_ok-two.ensures.holes)
+    both_holes c.args.self.now.config.recovery_mode c.args.self.now c.args.first (g.F.FileSystem.disk c.args.files.now) (g.F.FileSystem.disk c.open_one.new.files) (met.is_named c.args.files.now) (met.is_named c.open_one.new.files) c.requires.one c.requires.two c.open_one.ensures.others (g.F.FileSystem.disk c.open_one-2.new.files) (met.is_named c.open_one-2.new.files) (subst (λ (q : LogQueue). KeepsOthers q (g.F.FileSystem.disk c.open_one.new.files) (g.F.FileSystem.disk c.open_one-2.new.files)) c.other_of.ensures c.open_one-2.ensures.others) c.in_ok-one.one c.in_ok-two.two c.paired.result c.paired.ensures.one c.paired.ensures.two c.in_ok-one.ensures.opened (subst (λ (q : LogQueue). IsOpened c.args.self.now q (g.F.FileSystem.disk c.open_one.new.files) (g.F.FileSystem.disk c.open_one-2.new.files) c.in_ok-two.two) c.other_of.ensures c.in_ok-two.ensures.opened) one.0 one.2 c.in_ok-one.ensures.holes (subst (λ (q : LogQueue). HolesOnlyBroken c.args.self.now.config.recovery_mode (directories_in c.args.self.now) q (names_in c.args.self.now q) (g.F.FileSystem.disk c.open_one.new.files) (g.F.FileSystem.disk c.open_one-2.new.files) c.in_ok-two.two) c.other_of.ensures c.in_ok-two.ensures.holes)
 
 -- ---- what is set to refuse, and why it is refused
 
@@ -96,15 +96,15 @@ returns-clause-later g c = no_more_then c.in_ok-one.ensures.later c.in_ok-two.en
 
 pub returns-in_err-one-clause-cause : goal.returns-in_err-one-clause-cause
 returns-in_err-one-clause-cause g c =
-    let y = c.open_alone.new.files in
+    let y = c.open_one.new.files in
     told_cause c.from_residual.result c.in_err-one.field-0.0
     (λ (e : Error). IsEitherFault c.args.self.now (g.F.FileSystem.disk c.args.files.now) (g.F.FileSystem.disk y) (g.F.FileSystem.is_bounded c.args.files.now) (g.F.FileSystem.meter c.args.files.now) (g.F.FileSystem.meter y) e)
     c.from_residual.ensures.1 (c.args.first, c.in_err-one.ensures.cause)
 
 pub returns-in_err-two-clause-cause : goal.returns-in_err-two-clause-cause
 returns-in_err-two-clause-cause g c =
-    let y = c.open_alone.new.files in
-    let new = c.open_alone-2.new.files in
+    let y = c.open_one.new.files in
+    let new = c.open_one-2.new.files in
     let d = g.F.FileSystem.disk c.args.files.now in
     let free : Type 0 = g.F.FileSystem.is_bounded c.args.files.now in
     let a = g.F.FileSystem.meter c.args.files.now in
@@ -112,5 +112,5 @@ returns-in_err-two-clause-cause g c =
     (λ (x : Error). IsEitherFault c.args.self.now d (g.F.FileSystem.disk new) free a (g.F.FileSystem.meter new) x) c.from_residual-in_err-two.ensures.1 (
       c.other_of.result,
       fault_then (directories_in c.args.self.now) c.other_of.result (names_in c.args.self.now c.other_of.result) d (g.F.FileSystem.disk y) (g.F.FileSystem.disk new) free (g.F.FileSystem.is_bounded y) a (g.F.FileSystem.meter y) (g.F.FileSystem.meter new) c.in_err-two.field-0.0
-          c.open_alone.ensures.others.directories c.in_ok-one.ensures.later c.in_err-two.ensures.cause,
+          c.open_one.ensures.others.directories c.in_ok-one.ensures.later c.in_err-two.ensures.cause,
     )

@@ -4,7 +4,7 @@ use Rattle.std.proofs.Common.{inl}
 use Rattle.raft_log_recovery.specs.Caused.{IsRefusal}
 use Rattle.raft_log_disk.specs.Disk.{IsNoFile}
 use Rattle.raft_log_recovery.proofs.CausedLemmas.{recovery_caused}
-use Rattle.raft_log_recovery.proofs.repair.repair.Goals as goal
+use Rattle.raft_log_recovery.proofs.repair.repair_file.Goals as goal
 
 pub returns-in-None-clause-ok : goal.returns-in-None-clause-ok
 returns-in-None-clause-ok g c =

@@ -1,0 +1,45 @@
+use Rattle.std.proofs.Common.{◌++◌, Err}
+use Rattle.raft_log_records.specs.declared.file_id.LogQueue.{LogQueue}
+use Rattle.raft_log_files.specs.declared.error.CorruptionFault.{CorruptionFault}
+use Rattle.raft_log_files.specs.declared.error.Error.{Error}
+use Rattle.raft_log_pipe.proofs.CausedLemmas.{told_cause}
+use Rattle.raft_log_pipes.specs.Pipes.{other_queue}
+use Rattle.raft_log_recovery.specs.Both.{CantBeOpened, IsEitherFault}
+use Rattle.raft_log_recovery.proofs.BothLemmas.{found_of, with_both}
+use Rattle.raft_log_recovery.proofs.CausedLemmas.{either_taken}
+use Rattle.raft_log_recovery.proofs.CorruptLemmas.{passed_on}
+use Rattle.raft_log_recovery.proofs.builder.DualPipesBuilder.recover_by.Goals as goal
+
+pub open_both-requires-clause-one : goal.open_both-requires-clause-one
+open_both-requires-clause-one g c κs within = found_of c.args.self.now (g.F.FileSystem.disk c.args.files.now) c.first_queue-first.result c.requires.append c.requires.rewrite
+
+pub open_both-requires-clause-two : goal.open_both-requires-clause-two
+open_both-requires-clause-two g c κs within = found_of c.args.self.now (g.F.FileSystem.disk c.args.files.now) (other_queue c.first_queue-first.result) c.requires.append c.requires.rewrite
+
+pub returns-clause-replayed : goal.returns-clause-replayed
+returns-clause-replayed g c =
+    let all = c.in_ok-pipes.ensures.replayed c.new_target-machine.ensures in (
+      all.0 ++ all.1,
+      all.2,
+      with_both c.args.self.now c.first_queue-first.result (g.F.FileSystem.disk c.args.files.now) (g.F.FileSystem.disk c.open_both.new.files) c.in_ok-pipes.pipes all.0 all.1 c.first_queue-first.ensures all.3 all.4,
+    )
+
+pub returns-clause-holes : goal.returns-clause-holes
+returns-clause-holes g c = c.in_ok-pipes.ensures.holes c.new_target-machine.ensures
+
+pub returns-in_err-pipes-clause-corrupt : goal.returns-in_err-pipes-clause-corrupt
+returns-in_err-pipes-clause-corrupt g c =
+    passed_on (λ (f : CorruptionFault). (queue : LogQueue) × CantBeOpened c.args.self.now.config.recovery_mode c.args.self.now queue (g.F.FileSystem.disk c.args.files.now))
+    c.in_err-pipes.field-0.0 c.from_residual.result c.from_residual.ensures.1 (λ f same. c.in_err-pipes.ensures.corrupt f (λ i. Err (same i)))
+
+pub returns-in_err-pipes-clause-cause : goal.returns-in_err-pipes-clause-cause
+returns-in_err-pipes-clause-cause g c =
+    let y = c.open_both.new.files in
+    told_cause c.from_residual.result c.in_err-pipes.field-0.0
+    (λ (e : Error). IsEitherFault c.args.self.now (g.F.FileSystem.disk c.args.files.now) (g.F.FileSystem.disk y) (g.F.FileSystem.is_bounded c.args.files.now) (g.F.FileSystem.meter c.args.files.now) (g.F.FileSystem.meter y) e)
+    c.from_residual.ensures.1 c.in_err-pipes.ensures.cause
+
+pub returns-in_err-pipes-clause-taken : goal.returns-in_err-pipes-clause-taken
+returns-in_err-pipes-clause-taken g c =
+    either_taken c.args.self.now (g.F.FileSystem.disk c.args.files.now) (g.F.FileSystem.disk c.open_both.new.files) (g.F.FileSystem.is_bounded c.args.files.now) (g.F.FileSystem.meter c.args.files.now) (g.F.FileSystem.meter c.open_both.new.files) c.from_residual.result
+    (returns-in_err-pipes-clause-cause g c)
