@@ -3,3 +3,4 @@ pub mod BehindLemmas
 pub mod CleaningLemmas
 pub mod OpenedLemmas
 pub mod WholeLemmas
+pub mod StandingLemmas

@@ -1,24 +1,18 @@
 -- Queues that can be cleaned, as a log engine keeps them from call to call, and what keeps them so.
-use Rattle.std.specs.Prelude.{◌≡◌, ◌≤◌, ◌<◌, ◌-◌, ℕ, IsSome, List, [], ◌∷◌, ◌++◌}
+use Rattle.std.specs.Prelude.{◌≡◌, ◌≤◌, ◌<◌, ℕ, List, [], ◌∷◌, ◌++◌, None}
 use Rattle.std.specs.List.{AllByRecursion}
 use Rattle.raft_log_records.specs.Item.{Item}
-
-use Rattle.raft_log_memtables.specs.Content.{GroupContent, Content, nothing, after_batch}
+use Rattle.raft_log_memtables.specs.Content.{Content, nothing, after_batch}
 use Rattle.raft_log_memtables.specs.Replay.{content_of, mark_of}
 use Rattle.raft_log_memtables.specs.Taken.{TakesEach}
 use Rattle.raft_log_covers.specs.Account.{Account}
 use Rattle.raft_log_covers.specs.Cells.{AreUnmarked, after_batches}
 use Rattle.raft_log_covers.specs.Kept.{Traces, new_trace, traces_after}
 use Rattle.raft_log_covers.specs.Queues.{Filed, FilesRise, batches_of}
-use Rattle.raft_log_covers.specs.Trace.{Trace}
 use Rattle.raft_log_traces.specs.Alike.{AreAlike}
 use Rattle.raft_log_traces.specs.Files.{KeepsFrom}
 use Rattle.raft_log_marks.specs.Cleaning.{IsCleanable}
-use Rattle.raft_log_marks.specs.Whole.{Follows}
-
--- the last entry is there that the trace says is
-abbrev pub HasLast : {E : Type 0} → Trace → GroupContent E → Type 0
-HasLast t g = t.low < t.next → IsSome (g.entry (t.next - 1))
+use Rattle.raft_log_marks.specs.Whole.{HasLast, Follows}
 
 -- By these traces the append files from the first one on may be cleaned: what the rewrite queue's records and the append queue's
 -- batches read as is the content, and no trace keeps a file before the first one. Whatever was there before all these files is

@@ -6,7 +6,11 @@ ghost use Rattle.raft_log_marks.specs.MarkLaws.{RewritesNameBehind};
 ghost use Rattle.raft_log_marks.specs.Cleaning.{NewQueuesAreCleanable, WritesKeepCleanable};
 ghost use Rattle.raft_log_marks.specs.Cleaning.{MarksKeepCleanable, EntriesKeepCleanable};
 ghost use Rattle.raft_log_marks.specs.Cleaning.{KeysKeepCleanable, FilesBeforeTheLeastMayGo};
-ghost use Rattle.raft_log_marks.specs.Whole.{TakenChangesGoOn, ChangesLeaveWhole};
+ghost use Rattle.raft_log_marks.specs.Whole.{TakenChangesGoOn, ChangesLeaveLast};
+ghost use Rattle.raft_log_marks.specs.Whole.{RewritesLeaveLast, ChangesLeaveWhole};
+ghost use Rattle.raft_log_marks.specs.Standing.{CleanedQueuesReadAsTheContent};
+ghost use Rattle.raft_log_marks.specs.Standing.{NewQueuesCanBeCleaned, WritesLeaveCleanable};
+ghost use Rattle.raft_log_marks.specs.Standing.{FilesThatGoLeaveCleanable};
 ghost use Rattle.raft_log_marks.specs.Opened.{ReplaysAreCleanable, SettledGroupsKeepNoFile};
 
 /// Once the marks of a group stand in the rewrite queue and its trace says so, the invariant of the
@@ -45,8 +49,22 @@ pub fn opened_queues_are_cleanable()
     ensures settled { SettledGroupsKeepNoFile (List ℕ) }
 {}
 
-/// What memtables take of a list without a hole goes on where its trace has led, and leaves none.
-pub fn taken_changes_leave_lists_whole()
+/// What memtables take goes on where the trace has led, if the list has its last entry, also where it
+/// has holes. Each change, and what cleaning writes, leaves the last entry there; a list without a
+/// hole gets none.
+pub fn taken_changes_go_on()
     ensures taken { TakenChangesGoOn (List ℕ) }
+    ensures last { ChangesLeaveLast (List ℕ) }
+    ensures rewrites { RewritesLeaveLast (List ℕ) }
     ensures whole { ChangesLeaveWhole (List ℕ) }
+{}
+
+/// Queues that can be cleaned, as a log engine keeps them from call to call, read as the content. New
+/// ones can be cleaned; writes of batches that memtables take, and append files that go of which no
+/// trace keeps one, leave them so.
+pub fn cleaned_queues_stand()
+    ensures read { CleanedQueuesReadAsTheContent (List ℕ) }
+    ensures new { NewQueuesCanBeCleaned (List ℕ) }
+    ensures writes { WritesLeaveCleanable (List ℕ) }
+    ensures gone { FilesThatGoLeaveCleanable (List ℕ) }
 {}

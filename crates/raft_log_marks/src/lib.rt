@@ -5,7 +5,7 @@ mod laws;
 mod marks;
 
 pub use laws::{
-    entries_have_files_behind_them, files_before_the_least_may_go, marks_keep_queues,
-    opened_queues_are_cleanable, queues_stay_cleanable, taken_changes_leave_lists_whole,
+    cleaned_queues_stand, entries_have_files_behind_them, files_before_the_least_may_go,
+    marks_keep_queues, opened_queues_are_cleanable, queues_stay_cleanable, taken_changes_go_on,
 };
 pub use marks::{MarkError, add_marks};
