@@ -27,8 +27,11 @@ use Rattle.raft_log_traces.specs.Files.{KeepsFrom}
 use Rattle.raft_log_marks.specs.Cleaning.{IsCleanable, AreFront}
 use Rattle.raft_log_marks.specs.GroupMarks.{marks_of, trace_after_marks}
 use Rattle.raft_log_marks.specs.MarkLaws.{IsThere}
-use Rattle.raft_log_marks.specs.Standing.{CanBeCleaned, HasLast}
+use Rattle.raft_log_marks.specs.Standing.{CanBeCleaned}
+use Rattle.raft_log_marks.specs.Whole.{HasLast}
 use Rattle.raft_log_marks.proofs.CleaningLemmas.{marks_keep_cleanable, entries_keep_cleanable, keys_keep_cleanable}
+use Rattle.raft_log_marks.proofs.StandingLemmas.{alike_keeps}
+use Rattle.raft_log_marks.proofs.WholeLemmas.{alike_last, rewrites_leave_last}
 use Rattle.raft_log_purge.specs.Marking.{is_before, needs_marks}
 use Rattle.raft_log_purge.specs.Steps.{IsStep, AreSteps, HasSteps, IsFrontOf}
 use Rattle.raft_log_purge.specs.StepLaws.{StepsKeepCleanable, BatchesOfStepsKeepCleanable, StepsKeepFiles, StepsLeaveCleanable}
@@ -158,14 +161,6 @@ put_keeps first name t k = record {
   keys = λ key. from_either first (bytes_eq name key) (t.key_file key) (k.keys key);
 }
 
-alike_keeps : (first : ℕ) (t u : Trace) → IsAlike t u → KeepsFrom first t → KeepsFrom first u
-alike_keeps first t u a k = record {
-  since = subst (λ (o : Option ℕ). IsFrom first o) a.since k.since;
-  tail = subst (λ (o : Option ℕ). IsFrom first o) a.tail k.tail;
-  entries = λ i l m. subst (λ (o : Option ℕ). IsFrom first o) (a.entry_file i) (k.entries i (subst (λ (n : ℕ). n ≤ i) (sym a.low) l) (subst (λ (n : ℕ). i < n) (sym a.next) m));
-  keys = λ key. subst (λ (o : Option ℕ). IsFrom first o) (a.key_file key) (k.keys key);
-}
-
 group_keeps : (first group : ℕ) (t : Trace) (traces : Traces) → KeepsFrom first t → ((other : ℕ) → KeepsFrom first (traces other)) → (other : ℕ) → KeepsFrom first (with_trace group t traces other)
 group_keeps first group t traces k h other = by_test (nat_eq group other)
   where
@@ -189,14 +184,6 @@ steps_keep_files traces others (part ∷ parts) content first s h group =
 
 -- ---- the last entry of each group is there still
 
-alike_last : {E : Type 0} (t u : Trace) (g : GroupContent E) → IsAlike t u → HasLast t g → HasLast u g
-alike_last t u g a last some =
-    subst (λ (n : ℕ). IsSome (g.entry (n - 1))) a.next (last (subst (λ (n : ℕ). n < t.next) (sym a.low) (subst (λ (n : ℕ). u.low < n) (sym a.next) some)))
-
-after_marks_last : {E : Type 0} (there : Bool) (t : Trace) (g : GroupContent E) → HasLast t g → HasLast (trace_after_marks there t) g
-after_marks_last true t g last = last
-after_marks_last false t g last = λ some. absurd (omega (arith, some))
-
 group_last : {E : Type 0} (group : ℕ) (t : Trace) (traces : Traces) (content : Content E) → HasLast t (content group) → ((other : ℕ) → HasLast (traces other) (content other))
     → (other : ℕ) → HasLast (with_trace group t traces other) (content other)
 group_last group t traces content last h other = by_test (nat_eq group other) refl
@@ -208,9 +195,9 @@ group_last group t traces content last h other = by_test (nat_eq group other) re
 step_keeps_last : {E : Type 0} (traces others : Traces) (part : List (Item E)) (content : Content E) → IsStep content traces part others → ((group : ℕ) → HasLast (traces group) (content group))
     → (group : ℕ) → HasLast (others group) (content group)
 step_keeps_last traces others part content (inl m) h group =
-    alike_last _ (others group) (content group) (m.noted group) (group_last m.group _ traces content (after_marks_last m.there (traces m.group) (content m.group) (h m.group)) h group)
-step_keeps_last traces others part content (inr (inl f)) h group = alike_last _ (others group) (content group) (f.noted group) (group_last f.group _ traces content (h f.group) h group)
-step_keeps_last traces others part content (inr (inr p)) h group = alike_last _ (others group) (content group) (p.noted group) (group_last p.group _ traces content (h p.group) h group)
+    alike_last _ (others group) (content group) (m.noted group) (group_last m.group _ traces content ((rewrites_leave_last (traces m.group) (content m.group) (h m.group)).marked m.there) h group)
+step_keeps_last traces others part content (inr (inl f)) h group = alike_last _ (others group) (content group) (f.noted group) (group_last f.group _ traces content ((rewrites_leave_last (traces f.group) (content f.group) (h f.group)).entries_too (first_index f.es) f.stop) h group)
+step_keeps_last traces others part content (inr (inr p)) h group = alike_last _ (others group) (content group) (p.noted group) (group_last p.group _ traces content ((rewrites_leave_last (traces p.group) (content p.group) (h p.group)).keys_too p.name) h group)
 
 steps_keep_last : {E : Type 0} (traces others : Traces) (parts : List (List (Item E))) (content : Content E) → AreSteps content traces parts others → ((group : ℕ) → HasLast (traces group) (content group))
     → (group : ℕ) → HasLast (others group) (content group)
