@@ -16,7 +16,6 @@ use Rattle.raft_log_pipe.specs.Pipe.{Numbered, Holds, Leaves}
 use Rattle.raft_log_pipe.proofs.PipeLemmas.{holds_leaves, leaves_less}
 use Rattle.raft_log_pipes.specs.Kept.{KeepSettings}
 use Rattle.raft_log_pipes.specs.declared.pipes.DualPipes.{DualPipes}
-use Rattle.raft_log_pipes.specs.Pipes.{IsAsBefore}
 use Rattle.raft_log_blocks.specs.Held.{HoldsMore}
 
 -- ---- batches that are on the disk, and others

@@ -1,28 +1,21 @@
 -- The tables have the content of the batches, also with one more batch.
-use Rattle.std.proofs.Common.{◌≡◌, inl, inr, ℕ, ◌+◌, ◌≤◌, Bool, true, false, List, [], ◌∷◌, ◌++◌, length, map, take, drop, Option, Some, None, refl, sym, ap, subst, ◌∙◌, arith, append_assoc, length-append, length-take, length-drop}
-use Rattle.std.specs.Int.{w32, to_be_bytes}
+use Rattle.std.proofs.Common.{◌≡◌, inr, ℕ, ◌+◌, true, false, List, [], ◌∷◌, ◌++◌, length, map, Option, Some, None, refl, sym, ap, ◌∙◌, append_assoc}
 use Rattle.std.specs.List.{list_any}
 use Rattle.std.specs.Option.{option_map}
 use Rattle.std.proofs.lemmas.Bool.{false≢true}
-use Rattle.std.proofs.lemmas.List.{append-nil}
 use Rattle.raft_log_records.specs.declared.block.EntriesBlock.{EntriesBlock}
 use Rattle.raft_log_records.specs.declared.file_id.FileBlockHandle.{FileBlockHandle}
 use Rattle.raft_log_records.specs.declared.item.EntryIndex.{EntryIndex}
 use Rattle.raft_log_records.specs.declared.record.LogItemBatch.{LogItemBatch}
-use Rattle.raft_log_records.specs.Block.{StandsIn}
 use Rattle.raft_log_records.specs.Item.{Change, Item, change_map, entry_bytes, item_map, items_of, with_bytes, with_lengths}
 use Rattle.raft_log_records.specs.Item.Change.{entries, clean, compact, put, delete, mark}
-use Rattle.raft_log_records.specs.Signature.{signature_of}
-use Rattle.raft_log_records.specs.Spelling.{block_of, block_part, holds_entries, holds_mark, lengths, sealed, spell_block, spell_items, spell_record}
+use Rattle.raft_log_records.specs.Spelling.{block_of, holds_entries, holds_mark, lengths}
 use Rattle.raft_log_records.proofs.Laid.{any_held}
 use Rattle.raft_log_disk.specs.Disk.{Disk}
 use Rattle.raft_log_file.specs.Laws.{Batch}
-use Rattle.raft_log_pipe.specs.declared.pipe.SinglePipe.{SinglePipe}
-use Rattle.raft_log_pipe.specs.Blocks.{IsBlockOf, IsRecordOf, KeepsFiles}
-use Rattle.raft_log_pipe.specs.Pipe.{Holds, Numbered}
+use Rattle.raft_log_pipe.specs.Blocks.{KeepsFiles}
+use Rattle.raft_log_pipe.specs.Pipe.{Numbered}
 use Rattle.raft_log_pipes.specs.declared.pipes.DualPipes.{DualPipes}
-use Rattle.raft_log_pipes.specs.Pipes.{ArePipes, IsAsBefore}
-use Rattle.raft_log_pipe.proofs.BlockLemmas.{is_last, same_files}
 use Rattle.raft_log_memtables.specs.declared.memtables.MemTables.{MemTables}
 use Rattle.raft_log_memtables.specs.Content.{Content, after_batch}
 use Rattle.raft_log_memtables.specs.ContentLaws.{content_map}
@@ -31,11 +24,10 @@ use Rattle.raft_log_memtables.specs.MemTable.{batch_items, items_in}
 use Rattle.raft_log_memtables.specs.MemTables.{content_in}
 use Rattle.raft_log_memtables.proofs.Mapped.{batch_mapped}
 use Rattle.raft_content_log.proofs.Written.{ReadsAll, items_seen}
-use Rattle.raft_log_blocks.specs.Held.{AreMeasured, IsHeld, IsKept, IsPlace, IsTabled, LiesIn, ReadsEntries, content_of_batches, seen_on}
+use Rattle.raft_log_blocks.specs.Held.{AreMeasured, IsHeld, IsTabled, ReadsEntries, content_of_batches}
 use Rattle.raft_log_blocks.specs.Placed.{bytes_on}
 use Rattle.raft_log_blocks.proofs.HeldLemmas.{either_lies, held_answered, more_lies}
 use Rattle.raft_log_engine.proofs.Batches.{one_more_batch}
-use Rattle.raft_log_blocks.proofs.EntryReads.{disk_reads}
 use Rattle.raft_log_blocks.proofs.NewEntries.{IsPut, new_lies}
 
 -- ---- the lengths of entries in a block

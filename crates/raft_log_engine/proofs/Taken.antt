@@ -1,17 +1,15 @@
 -- Why a write or a sync is refused where nothing is set to refuse.
-use Rattle.std.proofs.Common.{◌≡◌, ◌⊎◌, ℕ, ◌+◌, ◌^◌, ◌<◌, ◌≤◌, lit≤, true, [], ◌∷◌, ◌++◌, Option, Some, None, refl, sym, ap, subst, ◌∙◌, arith, length}
-use Rattle.std.specs.Prelude.{Result, Ok, Err, IfSome}
+use Rattle.std.proofs.Common.{◌≡◌, ◌⊎◌, ℕ, ◌+◌, ◌≤◌, lit≤, true, [], ◌∷◌, ◌++◌, None, refl, sym, ap, subst, ◌∙◌, arith, length}
+use Rattle.std.specs.Prelude.{Result, Ok, Err}
 use Rattle.std.specs.Result.{IsErrAnd}
 use Rattle.std.proofs.lemmas.Bool.{false≢true}
 use Rattle.std.proofs.lemmas.Result.{err_from_is_err_and}
-use Rattle.raft_log_records.specs.declared.block.EntriesBlock.{EntriesBlock}
 use Rattle.raft_log_records.specs.declared.file_id.FileBlockHandle.{FileBlockHandle}
 use Rattle.raft_log_records.specs.declared.error.RecordError.{RecordError}
 use Rattle.raft_log_records.specs.declared.error.RecordError.TheVariants as record_error
 use Rattle.raft_log_records.specs.Batch.{populated}
 use Rattle.raft_log_records.specs.Batch as batch
-use Rattle.raft_log_records.specs.Block.{StandsIn}
-use Rattle.raft_log_records.specs.Spelling.{block_of, record_len, spell_record}
+use Rattle.raft_log_records.specs.Spelling.{record_len}
 use Rattle.raft_log_disk.specs.Disk.{Disk}
 use Rattle.raft_log_files.specs.declared.error.Error.{Error}
 use Rattle.raft_log_files.specs.declared.error.Error.TheVariants.{Io, Corruption, InvalidArgument, TryAgain, Memory, Other, EntryCompacted, EntryNotFound}
