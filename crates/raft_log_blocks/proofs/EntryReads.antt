@@ -141,13 +141,15 @@ placed_read p d q bs e bytes lies is read =
     ∙ ap (λ (x : SinglePipe). entry_bytes (block_in d lies.handle (file_in lies.handle.id.seq (files_of x))) e) is
     ∙ read
 
--- entries that lie in batches of either queue are read as their bytes
-pub disk_reads : (p : DualPipes) (d : Disk) (r s u : Numbered) → ArePipes p d → Holds p.rewrite d r [] → Holds p.append d s u → ReadsEntries p r (s ++ u) (bytes_on d p)
-disk_reads p d r s u pipes rewrite append e bytes (inl lies) =
-    let moved : LiesIn p.rewrite (r ++ []) e bytes = subst (λ (l : Numbered). LiesIn p.rewrite l e bytes) (sym (append-nil r)) lies in
-    placed_read p d p.rewrite (r ++ []) e bytes moved (ap (pipe_of p) (moved.queue ∙ p.rewrites)) (lies_read p.rewrite d r [] pipes.rewrite rewrite e bytes moved)
-disk_reads p d r s u pipes rewrite append e bytes (inr lies) =
+-- entries that lie in batches of either queue are read as their bytes, also in batches of the rewrite queue that wait for a sync
+pub all_disk_reads : (p : DualPipes) (d : Disk) (r f s u : Numbered) → ArePipes p d → Holds p.rewrite d r f → Holds p.append d s u → ReadsEntries p (r ++ f) (s ++ u) (bytes_on d p)
+all_disk_reads p d r f s u pipes rewrite append e bytes (inl lies) =
+    placed_read p d p.rewrite (r ++ f) e bytes lies (ap (pipe_of p) (lies.queue ∙ p.rewrites)) (lies_read p.rewrite d r f pipes.rewrite rewrite e bytes lies)
+all_disk_reads p d r f s u pipes rewrite append e bytes (inr lies) =
     placed_read p d p.append (s ++ u) e bytes lies (ap (pipe_of p) (lies.queue ∙ p.appends)) (lies_read p.append d s u pipes.append append e bytes lies)
+
+pub disk_reads : (p : DualPipes) (d : Disk) (r s u : Numbered) → ArePipes p d → Holds p.rewrite d r [] → Holds p.append d s u → ReadsEntries p r (s ++ u) (bytes_on d p)
+disk_reads p d r s u pipes rewrite append = subst (λ (l : Numbered). ReadsEntries p l (s ++ u) (bytes_on d p)) (append-nil r) (all_disk_reads p d r [] s u pipes rewrite append)
 
 -- and so are their blocks
 queue_block : (p : DualPipes) (d : Disk) (q : SinglePipe) (bs : Numbered) (e : EntryIndex) (bytes : List ℕ) → (lies : LiesIn q bs e bytes) → pipe_of p lies.handle.id.queue ≡ q

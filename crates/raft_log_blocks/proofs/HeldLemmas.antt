@@ -108,6 +108,17 @@ kept_on d e p q tables r bs kept pipes same other append = record {
   };
 }
 
+-- ---- a queue that calls leave
+
+-- two calls leave it
+pub then_as_before : (p q r : SinglePipe) (d e f : Disk) → IsAsBefore p d q e → IsAsBefore q e r f → IsAsBefore p d r f
+then_as_before p q r d e f first second = record {
+  same = second.same ∙ first.same;
+  usable = λ pipe. second.usable (first.usable pipe);
+  holds = λ s u holds. second.holds s u (first.holds s u holds);
+  alone = λ alone. second.alone (first.alone alone);
+}
+
 -- ---- what is seen in two ways
 
 pub not_longer : (l : List ℕ) → l ++ 0 ∷ [] ≡ l → ⊥

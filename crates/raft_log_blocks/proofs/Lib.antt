@@ -1,3 +1,4 @@
 pub mod EntryReads
 pub mod HeldLemmas
 pub mod Whole
+pub mod NewEntries

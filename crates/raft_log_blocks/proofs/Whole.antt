@@ -28,10 +28,10 @@ use Rattle.raft_log_memtables.specs.ContentLaws.{content_map}
 use Rattle.raft_log_memtables.specs.MemTables.{content_in}
 use Rattle.raft_log_blocks.specs.Blocks.{HasBlock, StandsWhole}
 use Rattle.raft_log_blocks.specs.Unread.{IsUnread}
-use Rattle.raft_log_blocks.specs.Held.{IsHeld, LiesIn, ReadsEntries}
+use Rattle.raft_log_blocks.specs.Held.{IsHeld, IsTabled, LiesIn, ReadsEntries}
 use Rattle.raft_log_blocks.specs.Placed.{bytes_on, file_in, unsealed_bytes}
-use Rattle.raft_log_blocks.proofs.EntryReads.{IsFound, disk_reads, found, lies_sealed, pipe_there, unsealed_is}
-use Rattle.raft_log_blocks.proofs.HeldLemmas.{held_answered, not_longer, some_same}
+use Rattle.raft_log_blocks.proofs.EntryReads.{IsFound, all_disk_reads, found, lies_sealed, pipe_there, unsealed_is}
+use Rattle.raft_log_blocks.proofs.HeldLemmas.{not_longer, some_same}
 
 -- ---- files of a pipe
 
@@ -114,12 +114,11 @@ tested_read : (d : Disk) (p : DualPipes) (e : EntryIndex) (bytes : List ℕ) →
 tested_read d p e bytes whole read = ap (λ (t : Bool). bytes_on d p e ++ cond t [] (0 ∷ [])) whole ∙ append-nil (bytes_on d p e) ∙ read
 
 -- entries of batches are read right so
-all_tested : (d : Disk) (p : DualPipes) (r s u : Numbered) → ArePipes p d → Holds p.rewrite d r [] → Holds p.append d s u → ReadsEntries p r (s ++ u) (tested d p)
-all_tested d p r s u pipes rewrite append e bytes (inl lies) =
-    let moved : LiesIn p.rewrite (r ++ []) e bytes = subst (λ (l : Numbered). LiesIn p.rewrite l e bytes) (sym (append-nil r)) lies in
-    tested_read d p e bytes (lying_stands d p p.rewrite r [] pipes.rewrite rewrite e bytes moved (ap (pipe_of p) (moved.queue ∙ p.rewrites))) (disk_reads p d r s u pipes rewrite append e bytes (inl lies))
-all_tested d p r s u pipes rewrite append e bytes (inr lies) =
-    tested_read d p e bytes (lying_stands d p p.append s u pipes.append append e bytes lies (ap (pipe_of p) (lies.queue ∙ p.appends))) (disk_reads p d r s u pipes rewrite append e bytes (inr lies))
+all_tested : (d : Disk) (p : DualPipes) (r f s u : Numbered) → ArePipes p d → Holds p.rewrite d r f → Holds p.append d s u → ReadsEntries p (r ++ f) (s ++ u) (tested d p)
+all_tested d p r f s u pipes rewrite append e bytes (inl lies) =
+    tested_read d p e bytes (lying_stands d p p.rewrite r f pipes.rewrite rewrite e bytes lies (ap (pipe_of p) (lies.queue ∙ p.rewrites))) (all_disk_reads p d r f s u pipes rewrite append e bytes (inl lies))
+all_tested d p r f s u pipes rewrite append e bytes (inr lies) =
+    tested_read d p e bytes (lying_stands d p p.append s u pipes.append append e bytes lies (ap (pipe_of p) (lies.queue ∙ p.appends))) (all_disk_reads p d r f s u pipes rewrite append e bytes (inr lies))
 
 stands_so : (d : Disk) (p : DualPipes) (e : EntryIndex) → tested d p e ≡ bytes_on d p e → stands d p e.entries ≡ true
 stands_so d p e same = by_test (stands d p e.entries) refl
@@ -129,9 +128,9 @@ stands_so d p e same = by_test (stands d p e.entries) refl
     by_test false is = absurd (not_longer (bytes_on d p e) (ap (λ (t : Bool). bytes_on d p e ++ cond t [] (0 ∷ [])) (sym is) ∙ same))
 
 -- no file of either queue's pipe is gone
-queue_named : (d : Disk) (p : DualPipes) (r s u : Numbered) → Holds p.rewrite d r [] → Holds p.append d s u → (queue : LogQueue) (f : File) → IsIn f (files_of (pipe_of p queue)) → IsNoFile d f.handle.0 → ⊥
-queue_named d p r s u rewrite append Append f among = file_named p.append d s u append f among
-queue_named d p r s u rewrite append Rewrite f among = file_named p.rewrite d r [] rewrite f among
+queue_named : (d : Disk) (p : DualPipes) (r f s u : Numbered) → Holds p.rewrite d r f → Holds p.append d s u → (queue : LogQueue) (file : File) → IsIn file (files_of (pipe_of p queue)) → IsNoFile d file.handle.0 → ⊥
+queue_named d p r f s u rewrite append Append file among = file_named p.append d s u append file among
+queue_named d p r f s u rewrite append Rewrite file among = file_named p.rewrite d r f rewrite file among
 
 whole_in : (d : Disk) (p : DualPipes) → ((queue : LogQueue) (f : File) → IsIn f (files_of (pipe_of p queue)) → IsNoFile d f.handle.0 → ⊥) → (h : FileBlockHandle) (o : Option File)
     → file_in h.id.seq (files_of (pipe_of p h.id.queue)) ≡ o → stands_in d h o ≡ true → StandsWhole d p h
@@ -152,12 +151,17 @@ whole_of : (d : Disk) (p : DualPipes) (e : EntryIndex) → ((queue : LogQueue) (
 whole_of d p e named None is test = absurd (false≢true test)
 whole_of d p e named (Some h) is test = (h, is, whole_in d p named h (file_in h.id.seq (files_of (pipe_of p h.id.queue))) refl test)
 
-pub has_block : (d : Disk) (p : DualPipes) (tables : MemTables) (r s u : Numbered) → IsHeld d p tables r s u → (group index : ℕ) (e : EntryIndex) → (content_in tables group).entry index ≡ Some e → HasBlock d p e
-has_block d p tables r s u held group index e there =
+-- the blocks of entries of the tables, also where batches of the rewrite queue wait for a sync
+pub block_there : (d : Disk) (p : DualPipes) (tables : MemTables) (r f s u : Numbered) → ArePipes p d → Holds p.rewrite d r f → Holds p.append d s u → IsTabled p (r ++ f) (s ++ u) tables
+    → (group index : ℕ) (e : EntryIndex) → (content_in tables group).entry index ≡ Some e → HasBlock d p e
+block_there d p tables r f s u pipes rewrite append tabled group index e there =
     let same : content_map (tested d p) (content_in tables) ≡ content_map (bytes_on d p) (content_in tables) =
-    held.tabled.content (tested d p) (all_tested d p r s u held.pipes held.rewrite held.append) ∙ sym (held_answered d p tables r s u held) in
-    whole_of d p e (queue_named d p r s u held.rewrite held.append) e.entries refl
+    tabled.content (tested d p) (all_tested d p r f s u pipes rewrite append) ∙ sym (tabled.content (bytes_on d p) (all_disk_reads p d r f s u pipes rewrite append)) in
+    whole_of d p e (queue_named d p r f s u rewrite append) e.entries refl
     (stands_so d p e (some_same (tested d p) (bytes_on d p) ((content_in tables group).entry index) e (λ i. (same i group).entry index) there))
+
+pub has_block : (d : Disk) (p : DualPipes) (tables : MemTables) (r s u : Numbered) → IsHeld d p tables r s u → (group index : ℕ) (e : EntryIndex) → (content_in tables group).entry index ≡ Some e → HasBlock d p e
+has_block d p tables r s u held = block_there d p tables r [] s u held.pipes held.rewrite held.append (subst (λ (l : Numbered). IsTabled p l (s ++ u) tables) (sym (append-nil r)) held.tabled)
 
 -- ---- why such a block isn't read
 

@@ -16,7 +16,6 @@ use Rattle.raft_log_pipe.specs.Pipe.{Numbered, Holds, Leaves}
 use Rattle.raft_log_pipe.proofs.PipeLemmas.{holds_leaves, leaves_less}
 use Rattle.raft_log_pipes.specs.Kept.{KeepSettings}
 use Rattle.raft_log_pipes.specs.declared.pipes.DualPipes.{DualPipes}
-use Rattle.raft_log_pipes.specs.Pipes.{IsAsBefore}
 use Rattle.raft_log_blocks.specs.Held.{HoldsMore}
 
 -- ---- batches that are on the disk, and others
@@ -99,16 +98,7 @@ still_stands old p new d items h stands queue active s u holds =
     let same : IsRecordOf new.queue p.active (s ++ u) items h = subst (λ q. IsRecordOf q p.active (s ++ u) items h) (sym queue) (stands s u holds) in
     subst (λ f. IsRecordOf new.queue f (s ++ u) items h) (sym active) same
 
--- ---- the other queue
-
--- two calls leave it
-pub then_as_before : (p q r : SinglePipe) (d e f : Disk) → IsAsBefore p d q e → IsAsBefore q e r f → IsAsBefore p d r f
-then_as_before p q r d e f first second = record {
-  same = second.same ∙ first.same;
-  usable = λ pipe. second.usable (first.usable pipe);
-  holds = λ s u holds. second.holds s u (first.holds s u holds);
-  alone = λ alone. second.alone (first.alone alone);
-}
+-- ---- settings
 
 -- settings that two calls keep
 pub set_then : (p q r : DualPipes) → KeepSettings p q → KeepSettings q r → KeepSettings p r

@@ -1,28 +1,21 @@
 -- The tables have the content of the batches, also with one more batch.
-use Rattle.std.proofs.Common.{◌≡◌, inl, inr, ℕ, ◌+◌, ◌≤◌, Bool, true, false, List, [], ◌∷◌, ◌++◌, length, map, take, drop, Option, Some, None, refl, sym, ap, subst, ◌∙◌, arith, append_assoc, length-append, length-take, length-drop}
-use Rattle.std.specs.Int.{w32, to_be_bytes}
+use Rattle.std.proofs.Common.{◌≡◌, inr, ℕ, ◌+◌, true, false, List, [], ◌∷◌, ◌++◌, length, map, Option, Some, None, refl, sym, ap, ◌∙◌, append_assoc}
 use Rattle.std.specs.List.{list_any}
 use Rattle.std.specs.Option.{option_map}
 use Rattle.std.proofs.lemmas.Bool.{false≢true}
-use Rattle.std.proofs.lemmas.List.{append-nil}
 use Rattle.raft_log_records.specs.declared.block.EntriesBlock.{EntriesBlock}
 use Rattle.raft_log_records.specs.declared.file_id.FileBlockHandle.{FileBlockHandle}
 use Rattle.raft_log_records.specs.declared.item.EntryIndex.{EntryIndex}
 use Rattle.raft_log_records.specs.declared.record.LogItemBatch.{LogItemBatch}
-use Rattle.raft_log_records.specs.Block.{StandsIn}
 use Rattle.raft_log_records.specs.Item.{Change, Item, change_map, entry_bytes, item_map, items_of, with_bytes, with_lengths}
 use Rattle.raft_log_records.specs.Item.Change.{entries, clean, compact, put, delete, mark}
-use Rattle.raft_log_records.specs.Signature.{signature_of}
-use Rattle.raft_log_records.specs.Spelling.{block_of, block_part, holds_entries, holds_mark, lengths, sealed, spell_block, spell_items, spell_record}
+use Rattle.raft_log_records.specs.Spelling.{block_of, holds_entries, holds_mark, lengths}
 use Rattle.raft_log_records.proofs.Laid.{any_held}
 use Rattle.raft_log_disk.specs.Disk.{Disk}
 use Rattle.raft_log_file.specs.Laws.{Batch}
-use Rattle.raft_log_pipe.specs.declared.pipe.SinglePipe.{SinglePipe}
-use Rattle.raft_log_pipe.specs.Blocks.{IsBlockOf, IsRecordOf, KeepsFiles}
-use Rattle.raft_log_pipe.specs.Pipe.{Holds, Numbered}
+use Rattle.raft_log_pipe.specs.Blocks.{KeepsFiles}
+use Rattle.raft_log_pipe.specs.Pipe.{Numbered}
 use Rattle.raft_log_pipes.specs.declared.pipes.DualPipes.{DualPipes}
-use Rattle.raft_log_pipes.specs.Pipes.{ArePipes, IsAsBefore}
-use Rattle.raft_log_pipe.proofs.BlockLemmas.{is_last, same_files}
 use Rattle.raft_log_memtables.specs.declared.memtables.MemTables.{MemTables}
 use Rattle.raft_log_memtables.specs.Content.{Content, after_batch}
 use Rattle.raft_log_memtables.specs.ContentLaws.{content_map}
@@ -31,53 +24,11 @@ use Rattle.raft_log_memtables.specs.MemTable.{batch_items, items_in}
 use Rattle.raft_log_memtables.specs.MemTables.{content_in}
 use Rattle.raft_log_memtables.proofs.Mapped.{batch_mapped}
 use Rattle.raft_content_log.proofs.Written.{ReadsAll, items_seen}
-use Rattle.raft_log_blocks.specs.Held.{AreMeasured, IsHeld, IsKept, IsPlace, IsTabled, LiesIn, ReadsEntries, content_of_batches, seen_on}
+use Rattle.raft_log_blocks.specs.Held.{AreMeasured, IsHeld, IsTabled, ReadsEntries, content_of_batches}
 use Rattle.raft_log_blocks.specs.Placed.{bytes_on}
 use Rattle.raft_log_blocks.proofs.HeldLemmas.{either_lies, held_answered, more_lies}
 use Rattle.raft_log_engine.proofs.Batches.{one_more_batch}
-use Rattle.raft_log_blocks.proofs.EntryReads.{disk_reads, length-sealed}
-
-record_longer : (signature : Option ℕ) (items : Batch) → list_any holds_entries items ≡ true → length (block_of items) + 16 ≤ length (spell_record signature items)
-unfolding spell_record
-record_longer signature items holds =
-    let block : List ℕ = spell_block items in
-    let body : List ℕ = spell_items (lengths items) in
-    let one : List ℕ = to_be_bytes w32 (12 + length block + length body) in
-    let two : List ℕ = to_be_bytes w32 (8 + length block) in
-    let a : length (one ++ (two ++ (block ++ sealed signature body))) ≡ 4 + length (two ++ (block ++ sealed signature body)) = length-append one (two ++ (block ++ sealed signature body)) in
-    let b : length (two ++ (block ++ sealed signature body)) ≡ 4 + length (block ++ sealed signature body) = length-append two (block ++ sealed signature body) in
-    omega (arith, a, b, length-append block (sealed signature body), length-sealed signature body, ap (λ (x : Bool). length (block_part x (block_of items))) holds, length-sealed None (block_of items))
-
-short_enough : (signature : Option ℕ) (items : Batch) (len : ℕ) → list_any holds_entries items ≡ true → take len (drop 8 (spell_record signature items)) ≡ sealed None (block_of items) → 8 + len ≤ length (spell_record signature items)
-short_enough signature items len holds is =
-    omega (arith, record_longer signature items holds, ap length is, length-sealed None (block_of items), length-take len (drop 8 (spell_record signature items)), length-drop 8 (spell_record signature items))
-
--- the entries of the new batch lie in it
-new_lies : (q : SinglePipe) (bs : Numbered) (seq : ℕ) (items : Batch) (h place : FileBlockHandle) (block : EntriesBlock) → IsRecordOf q.queue q.active bs items h → seq ≡ h.id.seq → IsPlace h block place
-    → ((signature : Option ℕ) → StandsIn (spell_record signature items) items (block_of items) (Some block)) → (e : EntryIndex) → LiesIn q (bs ++ (seq, items) ∷ []) (placed_in place e) (entry_bytes (block_of items) e)
-new_lies q bs seq items h place block at number is stands e =
-    let signature : Option ℕ = signature_of q.active.format.version q.active.seq in
-    let here = stands signature in
-    let sealed_there : take place.len (drop 8 (spell_record signature items)) ≡ sealed None (block_of items) =
-    (λ i. take (is.2 i) (drop 8 (spell_record signature items))) ∙ sym (ap (λ (n : ℕ). take block.len (drop n (spell_record signature items))) here.1) ∙ here.2 in
-    record {
-      handle = place;
-      file = q.active;
-      before = bs;
-      items = items;
-      after = [];
-      place = refl;
-      queue = ap (λ i. i.queue) (is.0 ∙ at.id);
-      among = is_last q.older.items q.active;
-      split = ap (λ (n : ℕ). bs ++ (n, items) ∷ []) (number ∙ at.block.seq);
-      block = record {
-        seq = ap (λ i. i.seq) is.0 ∙ at.block.seq;
-        offset = omega (arith, is.1, here.1, at.block.offset);
-        within = short_enough signature items place.len here.0 sealed_there;
-      };
-      stands = sealed_there;
-      bytes_are = refl;
-    }
+use Rattle.raft_log_blocks.proofs.NewEntries.{IsPut, new_lies}
 
 -- ---- the lengths of entries in a block
 
@@ -98,12 +49,6 @@ put_lengths h (item ∷ items) = λ i. record { group = item.group; change = cha
     change_put (mark id status) = refl
 
 -- ---- one more batch
-
--- where a batch stands that has its record at this place
-pub record IsPut (q : SinglePipe) (bs : Numbered) (items : Batch) (h : FileBlockHandle) (block : Option EntriesBlock) (place : FileBlockHandle) : Type 0 where
-  pub at : IsRecordOf q.queue q.active bs items h
-  pub stands : (signature : Option ℕ) → StandsIn (spell_record signature items) items (block_of items) block
-  pub is : (b : EntriesBlock) → block ≡ Some b → IsPlace h b place
 
 put_reads : (q : DualPipes) (r bs : Numbered) (seq : ℕ) (items : Batch) (h place : FileBlockHandle) (block : Option EntriesBlock) → IsPut q.append bs items h block place → seq ≡ h.id.seq
     → (read : EntryIndex → List ℕ) → ReadsEntries q r (bs ++ (seq, items) ∷ []) read → ReadsAll read place (block_of items) (list_any holds_entries items)

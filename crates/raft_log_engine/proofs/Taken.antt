@@ -1,23 +1,20 @@
 -- Why a write or a sync is refused where nothing is set to refuse.
-use Rattle.std.proofs.Common.{◌≡◌, ◌⊎◌, ℕ, ◌+◌, ◌^◌, ◌<◌, ◌≤◌, lit≤, true, [], ◌∷◌, ◌++◌, Option, Some, None, refl, sym, ap, subst, ◌∙◌, arith, length}
-use Rattle.std.specs.Prelude.{Result, Ok, Err, IfSome}
+use Rattle.std.proofs.Common.{◌≡◌, ◌⊎◌, ℕ, ◌+◌, ◌≤◌, lit≤, true, [], ◌∷◌, ◌++◌, None, refl, sym, ap, subst, ◌∙◌, arith, length}
+use Rattle.std.specs.Prelude.{Result, Ok, Err}
 use Rattle.std.specs.Result.{IsErrAnd}
 use Rattle.std.proofs.lemmas.Bool.{false≢true}
 use Rattle.std.proofs.lemmas.Result.{err_from_is_err_and}
-use Rattle.raft_log_records.specs.declared.block.EntriesBlock.{EntriesBlock}
 use Rattle.raft_log_records.specs.declared.file_id.FileBlockHandle.{FileBlockHandle}
 use Rattle.raft_log_records.specs.declared.error.RecordError.{RecordError}
 use Rattle.raft_log_records.specs.declared.error.RecordError.TheVariants as record_error
 use Rattle.raft_log_records.specs.Batch.{populated}
 use Rattle.raft_log_records.specs.Batch as batch
-use Rattle.raft_log_records.specs.Block.{StandsIn}
-use Rattle.raft_log_records.specs.Spelling.{block_of, record_len, spell_record}
+use Rattle.raft_log_records.specs.Spelling.{record_len}
 use Rattle.raft_log_disk.specs.Disk.{Disk}
 use Rattle.raft_log_files.specs.declared.error.Error.{Error}
 use Rattle.raft_log_files.specs.declared.error.Error.TheVariants.{Io, Corruption, InvalidArgument, TryAgain, Memory, Other, EntryCompacted, EntryNotFound}
 use Rattle.raft_log_file.specs.Laws.{Batch}
 use Rattle.raft_log_file.proofs.LawLemmas.{length-spelled}
-use Rattle.raft_log_file.proofs.UnsyncedLemmas.{spelled_long}
 use Rattle.raft_log_pipe.specs.declared.pipe.SinglePipe.{SinglePipe}
 use Rattle.raft_log_pipe.specs.Taken.{IsAppendTaken, IsBarred, IsFull, IsOkOrMemory, IsTakenBy, IsTooLarge, IsUnmade, IsUnnumbered, NeedsFile}
 use Rattle.raft_log_pipe.proofs.TakenLemmas.{exit_error, taken_for}
@@ -33,11 +30,6 @@ use Rattle.raft_log_engine.specs.declared.fault.EngineFault.TheVariants.{Log, No
 pub populated_long : (items : Batch) → (items ≡ [] → ⊥) → length (batch.encoded_of (populated items)) ≡ record_len items
 populated_long [] some = absurd (some refl)
 populated_long (item ∷ items) some = length-spelled None (item ∷ items)
-
--- the block of a record's entries begins in the file where the record lies in it
-pub block_fits : (items : Batch) (start : ℕ) (block : Option EntriesBlock) → ((signature : Option ℕ) → StandsIn (spell_record signature items) items (block_of items) block) → start + record_len items < 2 ^ 64 → IfSome block (λ b. start + b.offset < 2 ^ 64)
-block_fits items start None stands fits = tt
-block_fits items start (Some b) stands fits = omega (arith, (stands None).1, spelled_long None items, length-spelled None items, fits)
 
 -- ---- an append, with a sync behind it
 

@@ -1,5 +1,5 @@
 -- Files of a pipe that go: what is left of the disk, and of the pipe.
-use Rattle.std.proofs.Common.{◌≡◌, ◌≢◌, ◌⊎◌, inl, inr, ⊎_elim, ℕ, ◌+◌, ◌-◌, ◌^◌, ◌<◌, ◌≤◌, Bool, true, false, cond, nat_lt, List, [], ◌∷◌, ◌++◌, length, get_or, take, drop, Option, Some, None, refl, sym, ap, subst, ◌∙◌, arith, length-take}
+use Rattle.std.proofs.Common.{◌≡◌, ◌≢◌, ◌⊎◌, inl, inr, ⊎_elim, ℕ, zero, suc, ◌+◌, ◌-◌, ◌^◌, ◌<◌, ◌≤◌, Bool, true, false, cond, nat_lt, List, [], ◌∷◌, ◌++◌, length, get_or, take, drop, Option, Some, None, refl, sym, ap, subst, ◌∙◌, arith, length-drop, length-take}
 use Rattle.std.specs.Prelude.{String, Vec, remove, ◌==◌, ◌&&◌}
 use Rattle.std.specs.String.{string_bytes}
 use Rattle.std.specs.declared.alloc.Global.{Global}
@@ -20,7 +20,7 @@ use Rattle.raft_log_files.specs.FileName.{IsFileSeq, log_file_name}
 use Rattle.raft_log_file.specs.Laws.{Batch}
 use Rattle.raft_log_pipe.specs.declared.file.File.{File}
 use Rattle.raft_log_pipe.specs.declared.pipe.SinglePipe.{SinglePipe}
-use Rattle.raft_log_pipe.specs.Purging.{AreGone, HoldsRest, IsGone, KeepsFrom, from_file}
+use Rattle.raft_log_pipe.specs.Purging.{AreLastOf, AreGone, HoldsRest, IsGone, KeepsFrom, from_file}
 use Rattle.raft_log_pipe.specs.Stored.{IsEnded, IsStored}
 use Rattle.raft_log_pipe.specs.Pipe.{Numbered, numbered, id_of, first_of, AreConsecutive, AreOlder, Holds, HoldsIn, IsBlank, IsNamedSo, IsPipe}
 use Rattle.raft_log_pipe.proofs.NextLemmas.{some_is}
@@ -373,3 +373,28 @@ first_or_more q r e pipe same (inr as_many) = omega (arith, as_many, ap (λ (f :
 pub first_or_next : (q r : SinglePipe) (e : Disk) → IsPipe q e → r.active ≡ q.active → (length r.older.items + 1 ≡ length q.older.items) ⊎ (length r.older.items ≡ length q.older.items) → first_of r ≤ first_of q + 1
 first_or_next q r e pipe same (inl fewer) = omega (arith, fewer, ap (λ (f : File). f.seq) same, long_span q.older.items q.active.seq pipe.numbers)
 first_or_next q r e pipe same (inr as_many) = omega (arith, as_many, ap (λ (f : File). f.seq) same)
+
+-- ---- the files that are left
+
+none_dropped : {A : Type 0} (n : ℕ) (l : List A) → l ≡ [] → drop n l ≡ []
+none_dropped zero l e = e
+none_dropped (suc n) [] e = refl
+none_dropped (suc n) (x ∷ l) e = absurd cc
+
+drop_more : {A : Type 0} (n m : ℕ) (l : List A) → drop m (drop n l) ≡ drop (n + m) l
+drop_more zero m l = ap (λ (k : ℕ). drop k l) (omega arith)
+drop_more (suc n) m [] = none_dropped m [] refl ∙ sym (none_dropped (suc n + m) [] refl)
+drop_more {A} (suc n) m (x ∷ l) =
+    let same : suc (n + m) ≡ suc n + m = omega arith in
+    drop_more n m l ∙ ap (λ (k : ℕ). drop k (x ∷ l)) same
+
+-- the last ones of the last ones
+pub last_on : (old mid new : List File) → AreLastOf old mid → AreLastOf mid new → AreLastOf old new
+last_on old mid new one two = (one.0 + two.0, two.1 ∙ ap (λ (l : List File). drop two.0 l) one.1 ∙ drop_more one.0 two.0 old)
+
+-- a file with one of the last numbers is among them
+pub in_last_files : (fs : List File) (last n : ℕ) (f : File) → AreConsecutive fs last → IsIn f fs → last ≤ f.seq + length (drop n fs) → IsIn f (drop n fs)
+in_last_files fs last zero f numbers there late = there
+in_last_files [] last (suc n) f numbers there late = absurd there
+in_last_files (g ∷ fs) last (suc n) f numbers (inl same) late = absurd (omega (arith, numbers.0, late, ap (λ (x : File). x.seq) same, length-drop n fs))
+in_last_files (g ∷ fs) last (suc n) f numbers (inr later) late = in_last_files fs last n f numbers.1 later late

@@ -1,5 +1,5 @@
 -- Files of a pipe that go, the first ones first.
-use Rattle.std.specs.Prelude.{◌≡◌, ◌⊎◌, ℕ, ◌<◌, List, [], ◌∷◌, ◌++◌, nat_lt, Some, None, if◌then◌else◌, String}
+use Rattle.std.specs.Prelude.{◌≡◌, ◌⊎◌, ℕ, ◌<◌, List, [], ◌∷◌, ◌++◌, drop, nat_lt, Some, None, if◌then◌else◌, String}
 use Rattle.std.specs.List.{slice_index_or}
 use Rattle.std.specs.String.{string_bytes}
 use Rattle.std.specs.declared.alloc.Global.{Global}
@@ -15,6 +15,10 @@ use Rattle.raft_log_pipe.specs.Pipe.{Numbered, id_of, first_of, Holds}
 abbrev pub from_file : ℕ → Numbered → Numbered
 from_file seq [] = []
 from_file seq (b ∷ bs) = if nat_lt b.0 seq then from_file seq bs else b ∷ from_file seq bs
+
+-- these are the last ones of those files
+abbrev pub AreLastOf : List File → List File → Type 0
+AreLastOf old new = (n : ℕ) × (new ≡ drop n old)
 
 -- the pipe holds the batches of its files that are left
 abbrev pub HoldsRest : SinglePipe → Disk → SinglePipe → Disk → Type 0

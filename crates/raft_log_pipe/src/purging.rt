@@ -9,7 +9,7 @@ ghost use Rattle.raft_log_pipe.specs.Alone.{IsAlone};
 ghost use Rattle.raft_log_pipe.specs.Blocks.{IsOutOfSpan};
 ghost use Rattle.raft_log_pipe.specs.Caused.{IsCaused, IsPurgeFault};
 ghost use Rattle.raft_log_pipe.specs.Pipe.{IsPipe, first_of};
-ghost use Rattle.raft_log_pipe.specs.Purging.{AreGone, HoldsRest, KeepsFrom};
+ghost use Rattle.raft_log_pipe.specs.Purging.{AreGone, AreLastOf, HoldsRest, KeepsFrom};
 ghost use Rattle.raft_log_pipe.specs.Taken.{HasLost, IsOkOrMemory, IsPurgeTaken, IsTakenBy};
 
 use crate::pipe::SinglePipe;
@@ -26,6 +26,7 @@ impl SinglePipe {
         ensures same { (self.new.active ≡ self.old.active) × (self.new.queue ≡ self.old.queue) × (self.new.paths ≡ self.old.paths) }
         ensures ok { OnOk result (length self.new.older.items + 1 ≡ length self.old.older.items) }
         ensures err { OnErr result ((length self.new.older.items + 1 ≡ length self.old.older.items) ⊎ (length self.new.older.items ≡ length self.old.older.items)) }
+        ensures rest { AreLastOf self.old.older.items self.new.older.items }
         ensures gone { OnOk result (AreGone self.old self.new (F.disk files.new)) }
         ensures told { IsErrOf result (Other NumberOutOfSpan) → ⊥ }
         ensures holds { HoldsRest self.old (F.disk files.old) self.new (F.disk files.new) }
@@ -54,6 +55,7 @@ impl SinglePipe {
         ensures out { IsOutOfSpan self.old seq → IsErrOf result (Other NumberOutOfSpan) × (self.new ≡ self.old) × (F.disk files.new ≡ F.disk files.old) }
         ensures within { IsErrOf result (Other NumberOutOfSpan) → IsOutOfSpan self.old seq }
         ensures bound { (first_of self.old ≤ first_of self.new) × (first_of self.old ≤ seq → first_of self.new ≤ seq) }
+        ensures rest { AreLastOf self.old.older.items self.new.older.items }
         ensures gone { OnOk result (AreGone self.old self.new (F.disk files.new)) }
         ensures holds { HoldsRest self.old (F.disk files.old) self.new (F.disk files.new) }
         ensures keeps { KeepsFrom self.old.queue (first_of self.new) (F.disk files.old) (F.disk files.new) }

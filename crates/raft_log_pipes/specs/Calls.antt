@@ -15,7 +15,7 @@ use Rattle.raft_log_pipe.specs.Appending.{Appends, LeavesAppended, Stands}
 use Rattle.raft_log_pipe.specs.Blocks.{AreOfBlock, AreOfFile, IsBlockFault, IsOutOfSpan, KeepsFiles}
 use Rattle.raft_log_pipe.specs.Pipe.{Holds, IsPipe, Leaves, Numbered, first_of}
 use Rattle.raft_log_pipe.specs.Torn.{TearsAtEnd}
-use Rattle.raft_log_pipe.specs.Purging.{AreGone, HoldsRest, KeepsFrom}
+use Rattle.raft_log_pipe.specs.Purging.{AreGone, AreLastOf, HoldsRest, KeepsFrom}
 
 -- the bytes of a block of this pipe, or why there are none
 pub record IsReadOf (p : SinglePipe) (d : Disk) (meter : Meter) (handle : FileBlockHandle) (result : Result (Vec ℕ Global) Error) : Type 0 where
@@ -74,6 +74,7 @@ pub record IsPurgeOf (old : SinglePipe) (d : Disk) (new : SinglePipe) (e : Disk)
   pub out : IsOutOfSpan old seq → IsErrOf result (Other NumberOutOfSpan) × (new ≡ old) × (e ≡ d)
   pub within : IsErrOf result (Other NumberOutOfSpan) → IsOutOfSpan old seq
   pub bound : (first_of old ≤ first_of new) × (first_of old ≤ seq → first_of new ≤ seq)
+  pub rest : AreLastOf old.older.items new.older.items
   pub gone : OnOk result (AreGone old new e)
   pub holds : HoldsRest old d new e
   pub keeps : KeepsFrom old.queue (first_of new) d e

@@ -1,14 +1,14 @@
 -- What the steps of a cleaning keep.
-use Rattle.std.proofs.Common.{◌≡◌, inl, inr, ◌≤◌, ◌<◌, ℕ, Bool, true, false, cond, List, [], ◌∷◌, ◌++◌, length, Option, Some, None, refl, sym, ap, subst, ◌∙◌, append_assoc, append-nil, ◌+◌, arith}
+use Rattle.std.proofs.Common.{◌≡◌, inl, inr, ◌≤◌, ◌<◌, ℕ, Bool, true, false, cond, List, [], ◌∷◌, ◌++◌, length, Option, Some, None, refl, sym, ap, subst, ◌∙◌, append_assoc, append-nil, ◌+◌, ◌-◌, arith}
 use Rattle.std.proofs.lemmas.Bool.{eqb-true, eqb-false}
-use Rattle.std.specs.Prelude.{Result, Ok, Err, OnOk, nat_eq, nat_le, nat_lt, bytes_eq, slice_index, ◌&&◌, ◌^◌}
+use Rattle.std.specs.Prelude.{Result, Ok, Err, OnOk, IsSome, nat_eq, nat_le, nat_lt, bytes_eq, slice_index, ◌&&◌, ◌^◌}
 use Rattle.raft_log_records.specs.declared.item.AtomicGroupStatus.{AtomicGroupStatus}
 use Rattle.raft_log_records.specs.Batch.{Batch, Logs, LogsEntries, numbered, run_of}
 use Rattle.raft_log_records.specs.declared.error.RecordError.{RecordError}
 use Rattle.raft_log_records.specs.Item.{Change, Item}
 use Rattle.raft_log_records.specs.Item.Change.{entries, clean, compact, put, delete, mark}
 use Rattle.raft_log_records.specs.Spelling.{first_index}
-use Rattle.raft_log_memtables.specs.Content.{Content}
+use Rattle.raft_log_memtables.specs.Content.{Content, GroupContent, entry_at}
 use Rattle.raft_log_memtables.specs.Laws.{all_of}
 use Rattle.raft_log_memtables.specs.MemTable.{is_mark_of}
 use Rattle.raft_log_memtables.specs.Replay.{mark_in, mark_of}
@@ -16,7 +16,7 @@ use Rattle.raft_log_covers.specs.Account.{Account, IsFrom}
 use Rattle.raft_log_covers.specs.Cells.{AreUnmarked}
 use Rattle.raft_log_covers.specs.Joined.{without_marks}
 use Rattle.raft_log_covers.specs.Kept.{Traces, with_trace, new_trace}
-use Rattle.raft_log_covers.specs.Marks.{of_group}
+use Rattle.raft_log_covers.specs.Marks.{marks, of_group}
 use Rattle.raft_log_covers.specs.Queues.{Filed}
 use Rattle.raft_log_covers.specs.Trace.{Trace, trace_marked, trace_rewritten, trace_put}
 use Rattle.raft_log_covers.specs.Written.Written.{alone}
@@ -27,10 +27,14 @@ use Rattle.raft_log_traces.specs.Files.{KeepsFrom}
 use Rattle.raft_log_marks.specs.Cleaning.{IsCleanable, AreFront}
 use Rattle.raft_log_marks.specs.GroupMarks.{marks_of, trace_after_marks}
 use Rattle.raft_log_marks.specs.MarkLaws.{IsThere}
+use Rattle.raft_log_marks.specs.Standing.{CanBeCleaned}
+use Rattle.raft_log_marks.specs.Whole.{HasLast}
 use Rattle.raft_log_marks.proofs.CleaningLemmas.{marks_keep_cleanable, entries_keep_cleanable, keys_keep_cleanable}
+use Rattle.raft_log_marks.proofs.StandingLemmas.{alike_keeps}
+use Rattle.raft_log_marks.proofs.WholeLemmas.{alike_last, rewrites_leave_last}
 use Rattle.raft_log_purge.specs.Marking.{is_before, needs_marks}
 use Rattle.raft_log_purge.specs.Steps.{IsStep, AreSteps, HasSteps, IsFrontOf}
-use Rattle.raft_log_purge.specs.StepLaws.{StepsKeepCleanable, BatchesOfStepsKeepCleanable, StepsKeepFiles}
+use Rattle.raft_log_purge.specs.StepLaws.{StepsKeepCleanable, BatchesOfStepsKeepCleanable, StepsKeepFiles, StepsLeaveCleanable}
 
 -- ---- one step
 
@@ -157,14 +161,6 @@ put_keeps first name t k = record {
   keys = λ key. from_either first (bytes_eq name key) (t.key_file key) (k.keys key);
 }
 
-alike_keeps : (first : ℕ) (t u : Trace) → IsAlike t u → KeepsFrom first t → KeepsFrom first u
-alike_keeps first t u a k = record {
-  since = subst (λ (o : Option ℕ). IsFrom first o) a.since k.since;
-  tail = subst (λ (o : Option ℕ). IsFrom first o) a.tail k.tail;
-  entries = λ i l m. subst (λ (o : Option ℕ). IsFrom first o) (a.entry_file i) (k.entries i (subst (λ (n : ℕ). n ≤ i) (sym a.low) l) (subst (λ (n : ℕ). i < n) (sym a.next) m));
-  keys = λ key. subst (λ (o : Option ℕ). IsFrom first o) (a.key_file key) (k.keys key);
-}
-
 group_keeps : (first group : ℕ) (t : Trace) (traces : Traces) → KeepsFrom first t → ((other : ℕ) → KeepsFrom first (traces other)) → (other : ℕ) → KeepsFrom first (with_trace group t traces other)
 group_keeps first group t traces k h other = by_test (nat_eq group other)
   where
@@ -185,6 +181,66 @@ pub steps_keep_files : {E : Type 0} → StepsKeepFiles E
 steps_keep_files traces others [] content first e h group = subst (λ (t : Traces). KeepsFrom first (t group)) e (h group)
 steps_keep_files traces others (part ∷ parts) content first s h group =
     steps_keep_files s.0 others parts content first s.2 (step_keeps_files traces s.0 part content first s.1 h) group
+
+-- ---- the last entry of each group is there still
+
+group_last : {E : Type 0} (group : ℕ) (t : Trace) (traces : Traces) (content : Content E) → HasLast t (content group) → ((other : ℕ) → HasLast (traces other) (content other))
+    → (other : ℕ) → HasLast (with_trace group t traces other) (content other)
+group_last group t traces content last h other = by_test (nat_eq group other) refl
+  where
+    by_test : (b : Bool) → nat_eq group other ≡ b → HasLast (cond b t (traces other)) (content other)
+    by_test true same = subst (λ (n : ℕ). HasLast t (content n)) (eqb-true group other same) last
+    by_test false apart = h other
+
+step_keeps_last : {E : Type 0} (traces others : Traces) (part : List (Item E)) (content : Content E) → IsStep content traces part others → ((group : ℕ) → HasLast (traces group) (content group))
+    → (group : ℕ) → HasLast (others group) (content group)
+step_keeps_last traces others part content (inl m) h group =
+    alike_last _ (others group) (content group) (m.noted group) (group_last m.group _ traces content ((rewrites_leave_last (traces m.group) (content m.group) (h m.group)).marked m.there) h group)
+step_keeps_last traces others part content (inr (inl f)) h group = alike_last _ (others group) (content group) (f.noted group) (group_last f.group _ traces content ((rewrites_leave_last (traces f.group) (content f.group) (h f.group)).entries_too (first_index f.es) f.stop) h group)
+step_keeps_last traces others part content (inr (inr p)) h group = alike_last _ (others group) (content group) (p.noted group) (group_last p.group _ traces content ((rewrites_leave_last (traces p.group) (content p.group) (h p.group)).keys_too p.name) h group)
+
+steps_keep_last : {E : Type 0} (traces others : Traces) (parts : List (List (Item E))) (content : Content E) → AreSteps content traces parts others → ((group : ℕ) → HasLast (traces group) (content group))
+    → (group : ℕ) → HasLast (others group) (content group)
+steps_keep_last traces others [] content e h group = subst (λ (t : Traces). HasLast (t group) (content group)) e (h group)
+steps_keep_last traces others (part ∷ parts) content s h group =
+    steps_keep_last s.0 others parts content s.2 (step_keeps_last traces s.0 part content s.1 h) group
+
+pub steps_leave_cleanable : {E : Type 0} → StepsLeaveCleanable E
+steps_leave_cleanable first traces others records items content bs can s =
+    let after = batches_of_steps_keep_cleanable traces others can.account records items content bs can.cleanable s in
+    record {
+      account = after.0;
+      start = can.start;
+      base = can.base;
+      cleanable = after.1;
+      rise = can.rise;
+      unmarked = can.unmarked;
+      kept = steps_keep_files traces others s.0 content first s.2 can.kept;
+      last = steps_keep_last traces others s.0 content s.2 can.last;
+    }
+
+-- ---- steps in which nothing is written are none
+
+changes_some : {E : Type 0} (group : ℕ) (cleaned : Bool) (limit : ℕ) (ks : List (List ℕ)) (rest : List (Item E)) → of_group group (marks cleaned limit ks) ++ rest ≡ [] → ⊥
+changes_some group true limit ks rest e = cc
+changes_some group false limit ks rest e = cc
+
+marks_some : {E : Type 0} (group : ℕ) (there : Bool) (t : Trace) (rest : List (Item E)) → of_group group (marks_of there t) ++ rest ≡ [] → ⊥
+marks_some group true t rest e = changes_some group t.cleaned t.low t.deleted rest e
+marks_some group false t rest e = cc
+
+step_some : {E : Type 0} (content : Content E) (traces others : Traces) (part rest : List (Item E)) → IsStep content traces part others → part ++ rest ≡ [] → ⊥
+step_some {E} content traces others part rest (inl m) e = marks_some m.group m.there (traces m.group) rest (ap (λ (is : List (Item E)). is ++ rest) (sym m.written) ∙ e)
+step_some {E} content traces others part rest (inr (inl f)) e = let none : of_group {E = E} f.group (entries f.es ∷ []) ++ rest ≡ [] = ap (λ (is : List (Item E)). is ++ rest) (sym f.written) ∙ e in cc
+step_some {E} content traces others part rest (inr (inr p)) e = let none : of_group {E = E} p.group (put p.name p.value ∷ []) ++ rest ≡ [] = ap (λ (is : List (Item E)). is ++ rest) (sym p.written) ∙ e in cc
+
+-- so traces are as before
+pub steps_of_nothing : {E : Type 0} (content : Content E) (traces others : Traces) (items : List (Item E)) → HasSteps content traces [] others items → items ≡ [] → traces ≡ others
+steps_of_nothing {E} content traces others items s none = by_parts s.0 s.2 (sym s.1 ∙ none)
+  where
+    by_parts : (parts : List (List (Item E))) → AreSteps content traces parts others → all_of parts ≡ [] → traces ≡ others
+    by_parts [] e is = e
+    by_parts (part ∷ parts) a is = absurd (step_some content traces a.0 part (all_of parts) a.1 is)
 
 -- ---- one more step
 
@@ -267,6 +323,14 @@ first_of : (first : ℕ) (parts : List (List ℕ)) → 0 < length parts → firs
 first_of first [] l = absurd (omega (arith, l))
 first_of first (e ∷ es) l = refl
 
+none_numbered : {E : Type 0} (first : ℕ) (parts : List E) (i : ℕ) → i < first → entry_at (numbered first parts) i ≡ None
+none_numbered first [] i l = refl
+none_numbered {E} first (e ∷ es) i l = by_test (nat_eq first i) refl (none_numbered (first + 1) es i (omega (arith, l)))
+  where
+    by_test : (b : Bool) → nat_eq first i ≡ b → entry_at (numbered (first + 1) es) i ≡ None → cond b (Some e) (entry_at (numbered (first + 1) es) i) ≡ None
+    by_test true same rest = let eq = eqb-true first i same in absurd (omega (arith, l, eq))
+    by_test false apart rest = rest
+
 pub front_rewritten : (content : Content (List ℕ)) (traces others : Traces) (group first stop : ℕ) (parts : List (List ℕ)) (old new : List (Item (List ℕ))) → 0 < length parts → stop ≡ first + length parts
     → IsFrontOf content traces group first parts → new ≡ old ++ run_of group first parts ∷ []
     → ((n : ℕ) → ((i : ℕ) → i < n → (traces group).entry_file i ≡ None) → AreAlike (with_trace group (trace_rewritten n stop (traces group)) traces) others)
@@ -283,6 +347,7 @@ front_rewritten content traces others group first stop parts old new some ends f
           es = es;
           stop = stop;
           front = subst (λ (n : ℕ). AreFront (traces group) (content group) es n) (sym ends) front.front;
+          none_before = λ i below. none_numbered first parts i (subst (λ (n : ℕ). i < n) (sym e) below);
           written = refl;
           noted = subst (λ (n : ℕ). AreAlike (with_trace group (trace_rewritten n stop (traces group)) traces) others) e (noted first front.below);
         })),

@@ -7,6 +7,7 @@ use Rattle.raft_log_covers.specs.Account.{Account}
 use Rattle.raft_log_covers.specs.Kept.{Traces}
 use Rattle.raft_log_traces.specs.Files.{KeepsFrom}
 use Rattle.raft_log_marks.specs.Cleaning.{IsCleanable}
+use Rattle.raft_log_marks.specs.Standing.{CanBeCleaned}
 use Rattle.raft_log_purge.specs.Steps.{AreSteps, HasSteps}
 
 -- Steps that are written one by one keep the invariant of the two queues.
@@ -25,3 +26,8 @@ BatchesOfStepsKeepCleanable E = (traces others : Traces) (account : Account) (re
 abbrev pub StepsKeepFiles : Type 0 → Type 0
 StepsKeepFiles E = (traces others : Traces) (parts : List (List (Item E))) (content : Content E) (first : ℕ)
     → AreSteps content traces parts others → ((group : ℕ) → KeepsFrom first (traces group)) → (group : ℕ) → KeepsFrom first (others group)
+
+-- Behind a record of such steps the append files may be cleaned as before.
+abbrev pub StepsLeaveCleanable : Type 0 → Type 0
+StepsLeaveCleanable E = (first : ℕ) (traces others : Traces) (records : List (List (Item E))) (items : List (Item E)) (content : Content E) (bs : List (Filed E))
+    → CanBeCleaned first traces records content bs → HasSteps content traces [] others items → CanBeCleaned first others (records ++ items ∷ []) content bs

@@ -4,7 +4,7 @@ use Rattle.raft_log_records.specs.Batch.{numbered}
 use Rattle.raft_log_records.specs.Item.{Item}
 use Rattle.raft_log_records.specs.Item.Change.{entries, put}
 use Rattle.raft_log_records.specs.Spelling.{first_index}
-use Rattle.raft_log_memtables.specs.Content.{Content}
+use Rattle.raft_log_memtables.specs.Content.{Content, entry_at}
 use Rattle.raft_log_memtables.specs.Laws.{all_of}
 use Rattle.raft_log_covers.specs.Marks.{of_group}
 use Rattle.raft_log_covers.specs.Trace.{trace_rewritten, trace_put}
@@ -28,6 +28,7 @@ pub record IsFrontRewritten {E : Type 0} (content : Content E) (traces : Traces)
   pub es : List (ℕ × E)
   pub stop : ℕ
   pub front : AreFront (traces group) (content group) es stop
+  pub none_before : (i : ℕ) → i < first_index es → entry_at es i ≡ None
   pub written : part ≡ of_group group (entries es ∷ [])
   pub noted : AreAlike (with_trace group (trace_rewritten (first_index es) stop (traces group)) traces) others
 

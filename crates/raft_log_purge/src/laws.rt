@@ -2,7 +2,7 @@
 
 ghost use Rattle.std.specs.Prelude.{◌≡◌, ℕ, List};
 ghost use Rattle.raft_log_purge.specs.StepLaws.{StepsKeepCleanable, BatchesOfStepsKeepCleanable};
-ghost use Rattle.raft_log_purge.specs.StepLaws.{StepsKeepFiles};
+ghost use Rattle.raft_log_purge.specs.StepLaws.{StepsKeepFiles, StepsLeaveCleanable};
 ghost use Rattle.raft_log_purge.specs.Watermarks.{mark_at};
 
 /// Marks, entries and keys of groups that are written to the rewrite queue, one by one or several in
@@ -12,6 +12,7 @@ pub fn cleaning_steps_keep_queues()
     ensures steps { StepsKeepCleanable (List ℕ) }
     ensures batches { BatchesOfStepsKeepCleanable (List ℕ) }
     ensures files { StepsKeepFiles (List ℕ) }
+    ensures leave { StepsLeaveCleanable (List ℕ) }
 {}
 
 /// The marks of short spans of files: of those from 1 to 11, and of 1 and 2.

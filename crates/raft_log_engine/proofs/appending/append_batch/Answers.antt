@@ -5,7 +5,8 @@ use Rattle.raft_log_pipe.specs.Alone.{IsAlone, IsNearlyAlone}
 use Rattle.raft_log_pipe.proofs.AloneLemmas.{alone_on, nearly_on}
 use Rattle.raft_log_pipe.proofs.BlockLemmas.{same_files, then_files}
 use Rattle.raft_log_blocks.specs.Held.{HoldsMore}
-use Rattle.raft_log_engine.proofs.Appended.{appended_more, set_then, still_stands, synced_more, then_as_before, unsynced_leaves, unsynced_torn}
+use Rattle.raft_log_blocks.proofs.HeldLemmas.{then_as_before}
+use Rattle.raft_log_engine.proofs.Appended.{appended_more, set_then, still_stands, synced_more, unsynced_leaves, unsynced_torn}
 use Rattle.raft_log_disk.proofs.RefusalLemmas.{no_more_then, still_free}
 use Rattle.raft_log_records.specs.declared.file_id.FileBlockHandle.{FileBlockHandle}
 use Rattle.raft_log_engine.proofs.Taken.{sync_for}

@@ -20,9 +20,10 @@ use Rattle.raft_log_engine.proofs.Since.{failed_front, more_opens, more_written,
 use Rattle.raft_log_engine.specs.Reopened.{directories_of_engine}
 use Rattle.raft_log_engine.proofs.Synced.{either_opens, synced_agrees, synced_others, synced_refused, synced_written}
 use Rattle.raft_log_blocks.proofs.HeldLemmas.{answered}
+use Rattle.raft_log_blocks.proofs.NewEntries.{block_fits}
 use Rattle.raft_log_engine.proofs.Tails.{held_in_tail, left_in_tail, more_in_tail, stands_in_tail}
 use Rattle.raft_log_engine.proofs.Traced.{IsNoted}
-use Rattle.raft_log_engine.proofs.Taken.{block_fits, done_write, failed_write, refused_write, stopped_write, synced_write, unapplied_write}
+use Rattle.raft_log_engine.proofs.Taken.{done_write, failed_write, refused_write, stopped_write, synced_write, unapplied_write}
 use Rattle.raft_log_engine.proofs.Caused.{failed_cause, refused_cause, stopped_cause, synced_cause, unapplied_cause}
 use Rattle.raft_log_engine.specs.Caused.{IsWriteFault}
 use Rattle.raft_log_engine.specs.declared.fault.EngineFault.{EngineFault}

@@ -1,4 +1,4 @@
-use Rattle.std.proofs.Common.{◌≡◌, ◌+◌, ◌^◌, ◌<◌, List, ◌∷◌, ◌++◌, Some, None, inr, refl, sym, ap, arith, ◌∙◌}
+use Rattle.std.proofs.Common.{◌≡◌, ◌+◌, ◌^◌, ◌<◌, List, ◌∷◌, ◌++◌, drop, Some, None, inr, refl, sym, ap, arith, ◌∙◌}
 use Rattle.std.specs.Prelude.{Ok, Err}
 use Rattle.raft_log_disk.specs.Disk.{fd_of}
 use Rattle.raft_log_disk.specs.Name.{log_file_of}
@@ -21,6 +21,19 @@ build_file_path-requires g c = omega (arith, (first_number c.args.self.now (g.F.
 
 pub returns-in_err-path-clause-holds : goal.returns-in_err-path-clause-holds
 returns-in_err-path-clause-holds g c = holds_all c.args.self.now (g.F.FileSystem.disk c.args.files.now) (g.F.FileSystem.disk c.args.files.now) c.requires.pipe refl
+
+pub returns-in_err-path-clause-rest : goal.returns-in_err-path-clause-rest
+returns-in_err-path-clause-rest g c = (0, refl)
+
+pub returns-in_err-delete-clause-rest : goal.returns-in_err-delete-clause-rest
+returns-in_err-delete-clause-rest g c =
+    (1, sym (ap (λ (l : List File). drop 1 l)
+    (removed_first c.args.self.now.older.items c.index-file.result.now c.requires.some c.index-file.ensures ∙ ap (λ (l : List File). c.index-file.result.now ∷ l) (sym c.remove.ensures.items))))
+
+pub returns-clause-rest : goal.returns-clause-rest
+returns-clause-rest g c =
+    (1, sym (ap (λ (l : List File). drop 1 l)
+    (removed_first c.args.self.now.older.items c.index-file.result.now c.requires.some c.index-file.ensures ∙ ap (λ (l : List File). c.index-file.result.now ∷ l) (sym c.remove.ensures.items))))
 
 pub returns-in_err-delete-clause-pipe : goal.returns-in_err-delete-clause-pipe
 returns-in_err-delete-clause-pipe g c =

@@ -6,7 +6,7 @@ use Rattle.raft_log_disk.proofs.RefusalLemmas.{no_more_same, no_more_then, still
 use Rattle.raft_log_pipe.specs.Taken.{HasLost}
 use Rattle.raft_log_pipe.proofs.LostLemmas.{alone_purge, lost_more}
 use Rattle.raft_log_pipe.proofs.TakenLemmas.{exit_error, taken_for}
-use Rattle.raft_log_pipe.proofs.PurgeLemmas.{first_more, first_or_more, first_or_next, goes_on, gone_on, holds_all, in_files, none_gone, rest_on, same_keeps}
+use Rattle.raft_log_pipe.proofs.PurgeLemmas.{first_more, first_or_more, first_or_next, goes_on, gone_on, holds_all, in_files, last_on, none_gone, rest_on, same_keeps}
 use Rattle.raft_log_disk.specs.Cause.{Rises}
 use Rattle.raft_log_files.specs.declared.error.Error.{Error}
 use Rattle.raft_log_pipe.specs.Caused.{IsPurgeFault}
@@ -28,10 +28,17 @@ loop-gone-init g c =
       paths = refl;
       holds = holds_all c.args.self.now (g.F.FileSystem.disk c.args.files.now) (g.F.FileSystem.disk c.args.files.now) c.requires.pipe refl;
       keeps = same_keeps c.args.self.now.queue (first_of c.args.self.now) (g.F.FileSystem.disk c.args.files.now) (g.F.FileSystem.disk c.args.files.now) refl;
+      rest = (0, refl);
       gone = none_gone c.args.self.now (g.F.FileSystem.disk c.args.files.now);
       lost = λ seq x. x;
       later = no_more_same _ _;
     }
+
+pub returns-in_default-clause-rest : goal.returns-in_default-clause-rest
+returns-in_default-clause-rest g c = (0, refl)
+
+pub returns-in_err-purge_first-clause-rest : goal.returns-in_err-purge_first-clause-rest
+returns-in_err-purge_first-clause-rest g c = last_on c.args.self.now.older.items c.loop-gone.self.older.items c.purge_first.new.self.older.items c.loop-gone.invariant.rest c.in_err-purge_first.ensures.rest
 
 pub returns-in_err-purge_first-clause-holds : goal.returns-in_err-purge_first-clause-holds
 returns-in_err-purge_first-clause-holds g c =
@@ -62,6 +69,7 @@ loop-gone-preserved g c =
           c.loop-gone.invariant.holds c.in_ok-purge_first.ensures.holds;
       keeps = goes_on c.args.self.now c.loop-gone.self c.purge_first.new.self (g.F.FileSystem.disk c.args.files.now) (g.F.FileSystem.disk c.loop-gone.files) (g.F.FileSystem.disk c.purge_first.new.files)
           c.loop-gone.invariant.pipe c.in_ok-purge_first.ensures.pipe le c.loop-gone.invariant.queue c.loop-gone.invariant.keeps c.in_ok-purge_first.ensures.keeps;
+      rest = last_on c.args.self.now.older.items c.loop-gone.self.older.items c.purge_first.new.self.older.items c.loop-gone.invariant.rest c.in_ok-purge_first.ensures.rest;
       gone = gone_on c.args.self.now c.loop-gone.self c.purge_first.new.self (first_of c.purge_first.new.self) (g.F.FileSystem.disk c.loop-gone.files) (g.F.FileSystem.disk c.purge_first.new.files)
           c.loop-gone.invariant.queue c.loop-gone.invariant.paths
           (subst (λ (x : LogQueue). KeepsFrom x (first_of c.purge_first.new.self) (g.F.FileSystem.disk c.loop-gone.files) (g.F.FileSystem.disk c.purge_first.new.files)) c.loop-gone.invariant.queue c.in_ok-purge_first.ensures.keeps)

@@ -1,0 +1,7 @@
+mod Written
+mod Moved
+mod Standing
+mod Going
+mod Ends
+mod Chunks
+mod Gone

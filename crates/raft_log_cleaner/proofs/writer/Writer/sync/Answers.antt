@@ -1,0 +1,39 @@
+-- A sync of the rewrite queue.
+use Rattle.std.proofs.Common.{◌≡◌, sym, ap}
+use Rattle.raft_log_cleaner.proofs.Going.{none_ok, when_err}
+use Rattle.raft_log_cleaner.proofs.Standing as standing
+use Rattle.raft_log_cleaner.proofs.writer.Writer.sync.Goals as goal
+
+pub returns-in_err-sync-clause-goes_on : goal.returns-in_err-sync-clause-goes_on
+returns-in_err-sync-clause-goes_on g c =
+    let d = g.F.FileSystem.disk c.args.files.now in
+    let e = g.F.FileSystem.disk c.sync.new.files in
+    let other = c.in_err-sync.ensures.other in
+    record {
+      ok = λ content s. none_ok _ _ c.from_residual.result c.from_residual.ensures.1;
+      err = λ content s. when_err c.from_residual.result
+          (standing.sync_refused d e c.args.pipes.now c.sync.new.self c.args.log.now c.args.self.now.batch.items content s other (c.in_err-sync.ensures.call.err s.rewrites s.fresh s.rewrite));
+      append = other;
+    }
+
+pub returns-clause-goes_on : goal.returns-clause-goes_on
+returns-clause-goes_on g c =
+    let d = g.F.FileSystem.disk c.args.files.now in
+    let e = g.F.FileSystem.disk c.sync.new.files in
+    let other = c.in_ok-sync.ensures.other in
+    let call = c.in_ok-sync.ensures.call in
+    record {
+      ok = λ content s.
+          (standing.all_synced d e c.args.pipes.now c.sync.new.self c.args.log.now c.args.self.now.batch.items content s other call.pipe call.same (call.ok s.rewrites s.fresh s.rewrite)).0;
+      err = λ content s. tt;
+      append = other;
+    }
+
+pub returns-clause-synced : goal.returns-clause-synced
+returns-clause-synced g c =
+    let d = g.F.FileSystem.disk c.args.files.now in
+    let e = g.F.FileSystem.disk c.sync.new.files in
+    let other = c.in_ok-sync.ensures.other in
+    let call = c.in_ok-sync.ensures.call in
+    λ content s.
+    standing.all_synced d e c.args.pipes.now c.sync.new.self c.args.log.now c.args.self.now.batch.items content s other call.pipe call.same (call.ok s.rewrites s.fresh s.rewrite)

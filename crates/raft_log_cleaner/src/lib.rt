@@ -1,0 +1,10 @@
+//! Cleaning of the log: what still counts in old files is written anew to the rewrite queue, and then
+//! the old files go.
+#![tactic(auto)]
+
+mod entries;
+mod fault;
+mod manager;
+mod writer;
+
+pub use fault::of_record;
