@@ -5,7 +5,7 @@ use Rattle.std.specs.BTreeMap.{get}
 use Rattle.std.specs.Ordering.{nat_cmp}
 use Rattle.std.specs.declared.alloc.Global.{Global}
 use Rattle.std.specs.Option.{option_map}
-use Rattle.std.proofs.lemmas.Bool.{eqb-true, eqb-false, eq-eqb}
+use Rattle.std.proofs.lemmas.Bool.{eqb-true, eq-eqb}
 use Rattle.std.proofs.lemmas.List.{append-nil, length-map}
 use Rattle.std.proofs.lemmas.Option.{slice_get_read}
 use Rattle.raft_log_records.specs.declared.item.EntryIndex.{EntryIndex}
@@ -25,13 +25,12 @@ use Rattle.raft_log_memtables.specs.ContentLaws.{content_map, group_map}
 use Rattle.raft_log_memtables.specs.MemTables.{content_in}
 use Rattle.raft_log_covers.specs.Cells.{Cell, held}
 use Rattle.raft_log_covers.specs.Cells.Cell.{index, key, presence}
-use Rattle.raft_log_covers.specs.Trace.{AreRun, Knows, Trace}
+use Rattle.raft_log_covers.specs.Trace.{Trace}
+use Rattle.raft_log_covers.proofs.FileLemmas.{not_there}
 use Rattle.raft_log_traces.specs.GroupTraces.{traces_in}
-use Rattle.raft_log_marks.specs.Cleaning.{AreFront}
 use Rattle.raft_log_marks.specs.MarkLaws.{IsThere}
 use Rattle.raft_log_marks.specs.Standing.{CanBeCleaned}
-use Rattle.raft_log_marks.specs.Whole.{HasLast}
-use Rattle.raft_log_purge.specs.Steps.{AreThere, HasSteps, IsFrontOf}
+use Rattle.raft_log_purge.specs.Steps.{AreThere, IsFrontOf}
 use Rattle.raft_log_purge.proofs.StepLemmas.{steps_leave_cleanable}
 use Rattle.raft_log_blocks.specs.Held.{ReadsEntries}
 use Rattle.raft_log_blocks.specs.Blocks.{HasBlock}
@@ -111,10 +110,6 @@ fetched_there entry begin end size es f e among =
 
 -- ---- what is seen
 
-not_some : {E P : Type 0} (o : Option E) → o ≡ None → IsSome o → P
-not_some None e s = absurd cc
-not_some (Some x) e s = absurd cc
-
 some_mapped : {A B : Type 0} (f : A → B) (o : Option A) (c : Option B) → option_map f o ≡ c → IsSome o → IsSome c
 some_mapped f None c is s = absurd cc
 some_mapped f (Some x) c is s = subst (λ x. IsSome x) is refl
@@ -151,12 +146,12 @@ module _ (d : Disk) (p : DualPipes) (log : TracedTables) (items : Batch) (conten
     -- an entry that is there is within the ends that the trace says
     low_known : (i : ℕ) → IsSome (here i) → trace.low ≤ i
     low_known i some =
-        omega (arith, λ (l : i < trace.low). not_some {P = ⊥} ((content group).entry i) ((can_now.cleanable.kept.knows group).below i l) (some_mapped (bytes_on d p) (here i) ((content group).entry i) (entry_seen i) some))
+        omega (arith, λ (l : i < trace.low). not_there {P = ⊥} ((content group).entry i) ((can_now.cleanable.kept.knows group).below i l) (some_mapped (bytes_on d p) (here i) ((content group).entry i) (entry_seen i) some))
 
     next_known : (i : ℕ) → IsSome (here i) → i < trace.next
     next_known i some =
         let low = low_known i some in
-        omega (arith, λ (l : trace.next ≤ i). not_some {P = ⊥} ((content group).entry i) ((can_now.cleanable.kept.knows group).above i low l) (some_mapped (bytes_on d p) (here i) ((content group).entry i) (entry_seen i) some))
+        omega (arith, λ (l : trace.next ≤ i). not_there {P = ⊥} ((content group).entry i) ((can_now.cleanable.kept.knows group).above i low l) (some_mapped (bytes_on d p) (here i) ((content group).entry i) (entry_seen i) some))
 
     module _ (copies : AreCopies (bytes_on d p) here begin end parts) where
       there_at : (k : ℕ) → k < length parts → IsSome (here (begin + k))
@@ -181,7 +176,7 @@ module _ (d : Disk) (p : DualPipes) (log : TracedTables) (items : Batch) (conten
           until = omega (arith, first-numbered begin parts copies.some, length-numbered begin parts);
           within = omega (arith, copies.some, next_known (begin + (length parts - 1)) (there_at (length parts - 1) (omega (arith, copies.some))));
           same = λ i l m. same_at i (i - begin) (omega (arith, l, m, first-numbered begin parts copies.some)) (omega (arith, l, m, first-numbered begin parts copies.some));
-          first = λ i some in_file. omega (arith, first-numbered begin parts copies.some, λ (l : i < begin). not_some {P = ⊥} (trace.entry_file i) (below i l) in_file);
+          first = λ i some in_file. omega (arith, first-numbered begin parts copies.some, λ (l : i < begin). not_there {P = ⊥} (trace.entry_file i) (below i l) in_file);
           rest = λ more. (rest_there more followed, above (begin + length parts) (omega (arith, copies.some)) more);
         };
         below = below;
@@ -192,7 +187,7 @@ module _ (d : Disk) (p : DualPipes) (log : TracedTables) (items : Batch) (conten
 
           rest_there : begin + length parts < trace.next → ((i : ℕ) → begin + length parts ≤ i → here i ≡ None) ⊎ IsSome (here (begin + length parts)) → IsSome ((content group).entry (begin + length parts))
           rest_there more (inl none) =
-              not_some ((content group).entry (trace.next - 1)) (sym (entry_seen (trace.next - 1)) ∙ ap (option_map (bytes_on d p)) (none (trace.next - 1) (omega (arith, more)))) (last_there more)
+              not_there ((content group).entry (trace.next - 1)) (sym (entry_seen (trace.next - 1)) ∙ ap (option_map (bytes_on d p)) (none (trace.next - 1) (omega (arith, more)))) (last_there more)
           rest_there more (inr some) = some_mapped (bytes_on d p) (here (begin + length parts)) ((content group).entry (begin + length parts)) (entry_seen (begin + length parts)) some
 
 -- ---- groups and keys

@@ -1,5 +1,5 @@
 -- How a cleaning begins and ends: with a log that can be cleaned.
-use Rattle.std.proofs.Common.{◌≡◌, ℕ, List, [], ◌++◌, refl, sym, ap, subst, ◌∙◌}
+use Rattle.std.proofs.Common.{◌≡◌, ℕ, List, [], ◌++◌, sym, ap, subst, ◌∙◌}
 use Rattle.std.proofs.lemmas.List.{append-nil}
 use Rattle.std.specs.Prelude.{Result, Ok, Err, OnOk}
 use Rattle.raft_log_disk.specs.Disk.{Disk}
@@ -11,7 +11,6 @@ use Rattle.raft_log_memtables.specs.MemTables.{content_in}
 use Rattle.raft_log_covers.specs.Kept.{Traces}
 use Rattle.raft_log_traces.specs.GroupTraces.{traces_in}
 use Rattle.raft_log_marks.specs.Standing.{CanBeCleaned}
-use Rattle.raft_log_purge.specs.Steps.{HasSteps}
 use Rattle.raft_log_purge.proofs.StepLemmas.{no_steps, steps_of_nothing}
 use Rattle.raft_log_blocks.specs.Held.{IsTabled, ReadsEntries, seen_on}
 use Rattle.raft_log_blocks.specs.Placed.{bytes_on}

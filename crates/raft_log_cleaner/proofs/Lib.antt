@@ -5,3 +5,4 @@ mod Going
 mod Ends
 mod Chunks
 mod Gone
+mod Calls

@@ -1,5 +1,5 @@
 -- Tables whose entries lie in a block that was written anew.
-use Rattle.std.proofs.Common.{◌≡◌, ℕ, Bool, true, false, cond, List, [], ◌∷◌, map, Option, Some, None, refl, sym, ap, subst, ◌∙◌}
+use Rattle.std.proofs.Common.{◌≡◌, ℕ, Bool, true, false, cond, List, [], ◌∷◌, Option, Some, None, refl, sym, ap, subst, ◌∙◌}
 use Rattle.std.specs.Prelude.{IsSome, nat_eq}
 use Rattle.std.specs.Option.{option_map}
 use Rattle.raft_log_records.specs.declared.file_id.FileBlockHandle.{FileBlockHandle}
@@ -14,9 +14,9 @@ use Rattle.raft_log_records.specs.Places.{indexed}
 use Rattle.raft_log_records.specs.declared.command.Command.{Command}
 use Rattle.raft_log_records.specs.declared.command.Command.TheVariants as command
 use Rattle.raft_log_memtables.specs.Content.{Content, GroupContent, entry_at}
-use Rattle.raft_log_memtables.specs.ContentLaws.{content_map, group_map}
-use Rattle.raft_log_memtables.specs.Entries.{or_else, placed_in, placed_pairs}
-use Rattle.raft_log_memtables.specs.Moved.{content_moved, group_moved, moved}
+use Rattle.raft_log_memtables.specs.ContentLaws.{content_map}
+use Rattle.raft_log_memtables.specs.Entries.{or_else, placed_in}
+use Rattle.raft_log_memtables.specs.Moved.{group_moved, moved}
 use Rattle.raft_log_traced.specs.Places.{items_moved, moved_by}
 use Rattle.raft_log_traced.specs.Traced.{file_at, file_on}
 use Rattle.raft_log_cleaner.proofs.Written.{FileAfter, else_mapped, entry_in, run_mapped, written_at}

@@ -1,5 +1,5 @@
 -- What keeps a cleaning going: a batch that is written to the rewrite queue, and a sync of it.
-use Rattle.std.proofs.Common.{◌≡◌, ◌⊎◌, inl, inr, ℕ, zero, suc, Bool, true, false, List, [], ◌∷◌, ◌++◌, length, map, take, Option, Some, None, refl, sym, ap, subst, ◌∙◌, append_assoc}
+use Rattle.std.proofs.Common.{◌≡◌, ◌⊎◌, inl, inr, ℕ, zero, suc, true, false, List, [], ◌∷◌, ◌++◌, length, take, Option, Some, None, refl, sym, ap, subst, ◌∙◌, append_assoc}
 use Rattle.std.specs.Prelude.{IsSome}
 use Rattle.std.specs.List.{list_any}
 use Rattle.std.specs.Option.{option_map}
@@ -8,7 +8,6 @@ use Rattle.std.proofs.lemmas.List.{append-nil, map-append}
 use Rattle.raft_log_records.specs.declared.block.EntriesBlock.{EntriesBlock}
 use Rattle.raft_log_records.specs.declared.file_id.FileBlockHandle.{FileBlockHandle}
 use Rattle.raft_log_records.specs.declared.file_id.FileId.{FileId}
-use Rattle.raft_log_records.specs.declared.file_id.LogQueue.TheVariants.{Rewrite}
 use Rattle.raft_log_records.specs.declared.item.EntryIndex.{EntryIndex}
 use Rattle.raft_log_records.specs.declared.record.LogItemBatch.{LogItemBatch}
 use Rattle.raft_log_records.specs.Block.{StandsIn}
@@ -18,7 +17,7 @@ use Rattle.raft_log_disk.specs.Disk.{Disk}
 use Rattle.raft_log_file.specs.Laws.{Batch}
 use Rattle.raft_log_pipe.specs.declared.pipe.SinglePipe.{SinglePipe}
 use Rattle.raft_log_pipe.specs.Appending.{Appends, LeavesAppended, Stands}
-use Rattle.raft_log_pipe.specs.Blocks.{IsRecordOf, KeepsFiles}
+use Rattle.raft_log_pipe.specs.Blocks.{KeepsFiles}
 use Rattle.raft_log_pipe.specs.Pipe.{Holds, IsPipe, Leaves, Numbered, first_of}
 use Rattle.raft_log_pipe.proofs.BlockLemmas.{same_files}
 use Rattle.raft_log_pipe.proofs.PipeLemmas.{holds_leaves}
@@ -34,7 +33,6 @@ use Rattle.raft_log_covers.specs.Queues.{batches_of}
 use Rattle.raft_log_traces.specs.GroupTraces.{traces_in}
 use Rattle.raft_log_marks.specs.Standing.{CanBeCleaned}
 use Rattle.raft_log_marks.proofs.StandingLemmas.{cleaned_queues_read_as_the_content}
-use Rattle.raft_log_purge.specs.Steps.{HasSteps}
 use Rattle.raft_log_purge.proofs.StepLemmas.{no_steps, steps_leave_cleanable}
 use Rattle.raft_log_blocks.specs.Held.{IsPlace, IsTabled, LiesIn, ReadsEntries, content_of_batches}
 use Rattle.raft_log_blocks.proofs.HeldLemmas.{more_lies, same_lies}

@@ -1,21 +1,21 @@
 -- Which entries the items of a batch have, and what the steps of a cleaning say of them.
-use Rattle.std.proofs.Common.{◌≡◌, inl, inr, ℕ, ◌+◌, ◌<◌, ◌≤◌, Bool, true, false, cond, List, [], ◌∷◌, ◌++◌, length, map, Option, Some, None, refl, sym, ap, subst, ◌∙◌, arith, ltb-true, leb-true, true≢false}
-use Rattle.std.specs.Prelude.{IsSome, nat_eq, nat_le, nat_lt, bytes_eq, ◌&&◌}
+use Rattle.std.proofs.Common.{◌≡◌, inl, inr, ℕ, ◌+◌, ◌<◌, ◌≤◌, Bool, true, false, cond, List, [], ◌∷◌, ◌++◌, map, Option, Some, None, refl, sym, ap, subst, ◌∙◌, arith, ltb-true, leb-true}
+use Rattle.std.specs.Prelude.{IsSome, nat_eq, nat_le, nat_lt, ◌&&◌}
 use Rattle.std.specs.Option.{option_map}
 use Rattle.std.specs.List.{list_any}
 use Rattle.std.proofs.lemmas.Bool.{eqb-true, le-leb, lt-ltb, or_left, or_right}
 use Rattle.raft_log_records.specs.Item.{Change, Item, change_map, item_map}
 use Rattle.raft_log_records.specs.Item.Change.{entries, clean, compact, put, delete, mark}
 use Rattle.raft_log_records.specs.Spelling.{first_index, holds_entries}
-use Rattle.raft_log_memtables.specs.Content.{Content, GroupContent, entry_at}
+use Rattle.raft_log_memtables.specs.Content.{Content, entry_at}
 use Rattle.raft_log_memtables.specs.Entries.{or_else}
 use Rattle.raft_log_memtables.specs.Laws.{all_of}
-use Rattle.raft_log_covers.specs.Cells.{Held}
 use Rattle.raft_log_covers.specs.Cells.Cell.{index}
 use Rattle.raft_log_covers.specs.Cells.Held.{an_entry}
-use Rattle.raft_log_covers.specs.Kept.{Traces, with_trace, new_trace}
+use Rattle.raft_log_covers.specs.Kept.{Traces, with_trace}
 use Rattle.raft_log_covers.specs.Marks.{deletes, marks, of_group}
 use Rattle.raft_log_covers.specs.Trace.{Trace, trace_put, trace_rewritten}
+use Rattle.raft_log_covers.proofs.FileLemmas.{not_there}
 use Rattle.raft_log_marks.specs.GroupMarks.{marks_of, trace_after_marks}
 use Rattle.raft_log_marks.specs.MarkLaws.{IsThere}
 use Rattle.raft_log_purge.specs.Steps.{AreSteps, IsFrontRewritten, IsKeyRewritten, IsMarking, IsStep}
@@ -157,10 +157,6 @@ marks_unwritten {E} group false t other i = none_either {E = E} (nat_eq group ot
 
 -- ---- each step
 
-not_some : {E : Type 0} (o : Option E) → o ≡ None → IsSome o → ⊥
-not_some None e s = absurd cc
-not_some (Some x) e s = absurd cc
-
 held_none : {E : Type 0} (o : Option E) → an_entry o ≡ an_entry None → o ≡ None
 held_none o e = cc
 
@@ -186,7 +182,7 @@ marking_rewrites {E} content traces others part m = record {
     by_there : (there : Bool) → IsThere there (content m.group) → (group i : ℕ) → m.group ≡ group → IsSome ((content group).entry i) → (traces group).entry_file i ≡ (trace_after_marks there (traces m.group)).entry_file i
     by_there true is group i same some = ap (λ (n : ℕ). (traces n).entry_file i) (sym same)
     by_there false is group i same some =
-        absurd (not_some ((content m.group).entry i) (held_none ((content m.group).entry i) (is (index i))) (subst (λ (n : ℕ). IsSome ((content n).entry i)) (sym same) some))
+        absurd (not_there ((content m.group).entry i) (held_none ((content m.group).entry i) (is (index i))) (subst (λ (n : ℕ). IsSome ((content n).entry i)) (sym same) some))
 
 -- an index of entries that are rewritten
 abbrev is_within : ℕ → ℕ → ℕ → Bool
@@ -237,7 +233,7 @@ module _ {E : Type 0} (content : Content E) (traces others : Traces) (part : Lis
       by_test : (b : Bool) → is_within (first_index f.es) f.stop i ≡ b → (traces f.group).entry_file i ≡ cond b None ((traces f.group).entry_file i)
       by_test true e =
           let both = within_parts (nat_le (first_index f.es) i) (nat_lt i f.stop) e in
-          absurd (not_some ((content f.group).entry i) (sym (f.front.same i (leb-true (first_index f.es) i both.0) (ltb-true i f.stop both.1)) ∙ is) some)
+          absurd (not_there ((content f.group).entry i) (sym (f.front.same i (leb-true (first_index f.es) i both.0) (ltb-true i f.stop both.1)) ∙ is) some)
       by_test false e = refl
 
   front_rewrites : Rewrites content traces others part

@@ -1,5 +1,5 @@
 -- What a cleaning of the log stands on, from one record of the rewrite queue to the next, and what is left where it is refused.
-use Rattle.std.specs.Prelude.{◌≡◌, ℕ, List, [], ◌++◌, map, take, IsSome, Result, OnOk, OnErr}
+use Rattle.std.specs.Prelude.{◌≡◌, ◌⊎◌, ◌≤◌, ℕ, List, [], ◌++◌, map, take, IfSome, IsSome, Option, Result, OnOk, OnErr}
 use Rattle.raft_log_records.specs.declared.item.EntryIndex.{EntryIndex}
 use Rattle.raft_log_disk.specs.Disk.{Disk}
 use Rattle.raft_log_file.specs.Laws.{Batch}
@@ -94,11 +94,14 @@ pub record CanClean (d : Disk) (p : DualPipes) (log : TracedTables) (content : C
 abbrev pub CanCleanSome : Disk → DualPipes → TracedTables → Type 0
 CanCleanSome d p log = (content : Content (List ℕ)) × CanClean d p log content
 
--- A call that cleans: after Ok the log can be cleaned again, and is read as before. After Err whatever a crash leaves reads as the
--- content
+-- A call that cleans: after Ok the log can be cleaned again, of the same content. After Err whatever a crash leaves reads as it
 pub record Cleans {X E : Type 0} (d : Disk) (p : DualPipes) (log : TracedTables) (e : Disk) (q : DualPipes) (new : TracedTables) (result : Result X E) : Type 0 where
   pub ok : (content : Content (List ℕ)) → CanClean d p log content → OnOk result (CanClean e q new content)
   pub err : (content : Content (List ℕ)) → CanClean d p log content → OnErr result (LeavesContent e q content)
+
+-- No file of the append queue from this one on has gone, where there is one: its first number is as it was, or not behind the file
+abbrev pub KeepsFromBarrier : Option ℕ → DualPipes → DualPipes → Type 0
+KeepsFromBarrier barrier p q = IfSome barrier (λ file. (first_of q.append ≡ first_of p.append) ⊎ (first_of q.append ≤ file))
 
 -- The last steps of a cleaning: the batch is written, and the rewrite queue synced.
 pub record Finishes {X E : Type 0} (d : Disk) (p : DualPipes) (log : TracedTables) (items : Batch) (e : Disk) (q : DualPipes) (new : TracedTables) (result : Result X E) : Type 0 where

@@ -8,3 +8,4 @@ mod manager;
 mod writer;
 
 pub use fault::of_record;
+pub use manager::{PurgeManager, RewriteStep};

@@ -21,14 +21,8 @@ pub finish-requires-after_bounds : goal.finish-requires-after_bounds
 finish-requires-after_bounds g c κs within =
     (c.requires.0, c.in_ok-rewrite_each.ensures.ok c.requires.0 (begins_with (g.F.FileSystem.disk c.args.files.now) c.args.pipes.now c.args.log.now c.new-writer.result.batch.items c.requires.0 c.new-writer.ensures c.requires.1))
 
-pub returns-in_err-finish : goal.returns-in_err-finish
-returns-in_err-finish g c = record {
-  ok = λ content can. none_ok _ _ c.from_residual-in_err-finish.result c.from_residual-in_err-finish.ensures.1;
-  err = λ content can. when_err c.from_residual-in_err-finish.result (c.in_err-finish.ensures.err content (c.in_ok-rewrite_each.ensures.ok content (begins_with (g.F.FileSystem.disk c.args.files.now) c.args.pipes.now c.args.log.now c.new-writer.result.batch.items content c.new-writer.ensures can)));
-}
-
 pub returns : goal.returns
 returns g c = record {
-  ok = λ content can. c.in_ok-finish.ensures.ok content (c.in_ok-rewrite_each.ensures.ok content (begins_with (g.F.FileSystem.disk c.args.files.now) c.args.pipes.now c.args.log.now c.new-writer.result.batch.items content c.new-writer.ensures can));
-  err = λ content can. tt;
+  ok = λ content can. c.finish.ensures.ok content (c.in_ok-rewrite_each.ensures.ok content (begins_with (g.F.FileSystem.disk c.args.files.now) c.args.pipes.now c.args.log.now c.new-writer.result.batch.items content c.new-writer.ensures can));
+  err = λ content can. c.finish.ensures.err content (c.in_ok-rewrite_each.ensures.ok content (begins_with (g.F.FileSystem.disk c.args.files.now) c.args.pipes.now c.args.log.now c.new-writer.result.batch.items content c.new-writer.ensures can));
 }

@@ -1,0 +1,23 @@
+-- Calls that clean, one after the other.
+use Rattle.std.proofs.Common.{ℕ, List}
+use Rattle.std.specs.Prelude.{Result}
+use Rattle.std.specs.Result.{IsErrAnd}
+use Rattle.raft_log_disk.specs.Disk.{Disk}
+use Rattle.raft_log_pipes.specs.declared.pipes.DualPipes.{DualPipes}
+use Rattle.raft_log_traced.specs.declared.traced.TracedTables.{TracedTables}
+use Rattle.raft_log_cleaner.specs.Cleaning.{Cleans}
+use Rattle.raft_log_cleaner.proofs.Ends.{can_leave}
+use Rattle.raft_log_cleaner.proofs.Going.{done, failed, none_ok, when_err, when_ok}
+
+pub cleans_done : {X E : Type 0} (d : Disk) (p : DualPipes) (log : TracedTables) (x : X) → Cleans d p log d p log (done {X = X} {E = E} x)
+cleans_done d p log x = record { ok = λ content can. can; err = λ content can. tt }
+
+pub cleans_stopped : {X E : Type 0} (Q : E → Type 0) (d : Disk) (p : DualPipes) (log : TracedTables) (result : Result X E) → IsErrAnd result Q → Cleans d p log d p log result
+cleans_stopped Q d p log result is = record { ok = λ content can. none_ok Q _ result is; err = λ content can. when_err result (can_leave d p log content can) }
+
+module _ {d e f : Disk} {p q r : DualPipes} {log mid new : TracedTables} where
+  pub cleans_then : {X Y E : Type 0} (x : X) (result : Result Y E) → Cleans d p log e q mid (done {X = X} {E = E} x) → Cleans e q mid f r new result → Cleans d p log f r new result
+  cleans_then x result one two = record { ok = λ content can. two.ok content (one.ok content can); err = λ content can. two.err content (one.ok content can) }
+
+pub cleans_refused : {X Y E : Type 0} (Q : E → Type 0) {d e : Disk} {p q : DualPipes} {log mid : TracedTables} (result : Result Y E) (x : E) → IsErrAnd result Q → Cleans d p log e q mid (failed {X = X} {E = E} x) → Cleans d p log e q mid result
+cleans_refused Q result x is one = record { ok = λ content can. none_ok Q _ result is; err = λ content can. when_err result (one.err content can) }

@@ -1,0 +1,27 @@
+-- Files that no group needs.
+use Rattle.std.proofs.Common.{◌≡◌, ℕ, ◌+◌, sym, ◌∙◌}
+use Rattle.std.specs.Prelude.{Result, Ok, Err, IfOk}
+use Rattle.raft_log_cleaner.proofs.Going.{when_err, when_ok}
+use Rattle.raft_log_cleaner.proofs.Gone.{counted, files_gone, none_from, rest_leaves}
+use Rattle.raft_log_cleaner.proofs.manager.PurgeManager.purge_append_files.Goals as goal
+
+pub let_go-requires-after_bounds : goal.let_go-requires-after_bounds
+let_go-requires-after_bounds g c κs within = c.requires.1.pipes.append
+
+pub returns-clause-cleans : goal.returns-clause-cleans
+returns-clause-cleans g c =
+    let d = g.F.FileSystem.disk c.args.files.now in
+    let e = g.F.FileSystem.disk c.let_go.new.files in
+    let call = c.let_go.ensures.call in
+    record {
+      ok = λ content can. when_ok c.let_go.result (files_gone d e c.args.pipes.now c.let_go.new.pipes c.args.log.now content can call.0 c.let_go.result c.args.barrier call.1 call.2 c.let_go.ensures.other);
+      err = λ content can. when_err c.let_go.result (rest_leaves d e c.args.pipes.now c.let_go.new.pipes c.args.log.now content can call.0 c.let_go.result c.args.barrier call.1 call.2 c.let_go.ensures.other);
+    }
+
+pub returns-clause-barrier : goal.returns-clause-barrier
+returns-clause-barrier g c =
+    let call = c.let_go.ensures.call in
+    none_from (g.F.FileSystem.disk c.args.files.now) (g.F.FileSystem.disk c.let_go.new.files) c.args.pipes.now c.let_go.new.pipes c.args.log.now c.requires.0 c.requires.1 call.0 c.let_go.result c.args.barrier call.1 call.2
+
+pub returns-clause-count : goal.returns-clause-count
+returns-clause-count g c = counted c.let_go.result c.let_go.ensures.call.0 c.args.pipes.now.append c.let_go.new.pipes.append c.let_go.ensures.call.2.ok
