@@ -40,6 +40,11 @@ HasFrom entry first = (i : ℕ) × (first ≤ i) × IsSome (entry i)
 abbrev pub NoneFrom : {E : Type 0} → (ℕ → Option E) → ℕ → Type 0
 NoneFrom entry first = (i : ℕ) → first ≤ i → entry i ≡ None
 
+-- the least index of an entry from an index on, or none where no entry is there from it on
+abbrev pub IsNext : {E : Type 0} → (ℕ → Option E) → ℕ → Option ℕ → Type 0
+IsNext entry from None = NoneFrom entry from
+IsNext entry from (Some index) = (from ≤ index) × IsSome (entry index) × ((i : ℕ) → from ≤ i → i < index → entry i ≡ None)
+
 abbrev pub HasBefore : {E : Type 0} → (ℕ → Option E) → ℕ → Type 0
 HasBefore entry limit = (i : ℕ) × (i < limit) × IsSome (entry i)
 

@@ -8,8 +8,8 @@ ghost use Rattle.raft_log_records.specs.Item.{change_map};
 ghost use Rattle.raft_log_records.specs.Places.{indexed};
 ghost use Rattle.raft_log_memtables.specs.Content.{entry_at, reach_of};
 ghost use Rattle.raft_log_memtables.specs.Entries.{entry_of, placed_in, placed_pairs, IsFirst};
-ghost use Rattle.raft_log_memtables.specs.Entries.{IsLast, HasFrom, NoneFrom, HasBefore};
-ghost use Rattle.raft_log_memtables.specs.Entries.{NoneBefore, or_else};
+ghost use Rattle.raft_log_memtables.specs.Entries.{IsLast, IsNext, HasFrom, NoneFrom};
+ghost use Rattle.raft_log_memtables.specs.Entries.{HasBefore, NoneBefore, or_else};
 ghost use Rattle.raft_log_memtables.specs.Fetch.{count_before};
 ghost use Rattle.raft_log_memtables.specs.Moved.{moved};
 ghost use Rattle.raft_log_memtables.specs.Taken.{within, HasWithin, NoneWithin};
@@ -36,6 +36,16 @@ pub fn last_of(entries: &EntryMap) -> Option<u64>
     ensures { IsLast (entry_of entries.now) result }
 {
     match entries.last_key_value() {
+        Some((index, _)) => Some(*index),
+        None => None,
+    }
+}
+
+/// The least index from one on.
+pub fn next_of(entries: &EntryMap, from: u64) -> Option<u64>
+    ensures { IsNext (entry_of entries.now) from result }
+{
+    match entries.range(from..).next() {
         Some((index, _)) => Some(*index),
         None => None,
     }

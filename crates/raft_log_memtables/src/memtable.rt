@@ -8,13 +8,13 @@ ghost use Rattle.raft_log_records.specs.Item.Change.{entries, compact, put, dele
 ghost use Rattle.raft_log_records.specs.Places.{indexed};
 ghost use Rattle.raft_log_records.specs.Spelling.{first_index};
 ghost use Rattle.raft_log_memtables.specs.Content.{after_change, reach_after, takes_from};
-ghost use Rattle.raft_log_memtables.specs.Entries.{IsFirst, IsLast};
+ghost use Rattle.raft_log_memtables.specs.Entries.{IsFirst, IsLast, IsNext};
 ghost use Rattle.raft_log_memtables.specs.Taken.{HasWithin, NoneWithin, TakesFrom};
 ghost use Rattle.raft_log_memtables.specs.MemTable.{table_content, group_in, reached_in};
 ghost use Rattle.raft_log_memtables.specs.MemTable.{only_there, placed_change, is_clean_of};
 
 use crate::entries::{
-    EntryMap, add_placed, cut_before, cut_from, first_of, has_within, last_of, reach,
+    EntryMap, add_placed, cut_before, cut_from, first_of, has_within, last_of, next_of, reach,
 };
 use crate::keys::KeyMap;
 use raft_log_records::{Command, EntryIndex, FileBlockHandle, LogItemContent};
@@ -174,6 +174,14 @@ impl MemTable {
         ensures { IsLast (group_in self.now).entry result }
     {
         last_of(&self.entries)
+    }
+
+    /// The least index from one on at which an entry is there, if there is one.
+    #[tactic(auto, unfolding(crate::specs::MemTable::group_in))]
+    pub fn next_index(&self, from: u64) -> Option<u64>
+        ensures { IsNext (group_in self.now).entry from result }
+    {
+        next_of(&self.entries, from)
     }
 
     /// The greatest index that entries ever had since the group was last cleaned, also where none is

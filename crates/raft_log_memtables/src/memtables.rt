@@ -12,7 +12,7 @@ ghost use Rattle.raft_log_records.specs.Item.{change_of, item_of, item_map};
 ghost use Rattle.raft_log_memtables.specs.Content.{nothing, no_group, after_change, after_item};
 ghost use Rattle.raft_log_memtables.specs.Content.{after_batch, reach_after, reach_after_item};
 ghost use Rattle.raft_log_memtables.specs.Content.{reach_after_batch, takes_from};
-ghost use Rattle.raft_log_memtables.specs.Entries.{IsFirst, IsLast, placed_in};
+ghost use Rattle.raft_log_memtables.specs.Entries.{IsFirst, IsLast, IsNext, placed_in};
 ghost use Rattle.raft_log_memtables.specs.MemTable.{group_in, batch_items, placed_change};
 ghost use Rattle.raft_log_memtables.specs.MemTable.{is_clean_of, is_mark_of};
 ghost use Rattle.raft_log_memtables.specs.Tables.{table_at, reach_at, IsMade, IsChanged};
@@ -268,6 +268,17 @@ impl MemTables {
         match self.get_table(raft_group_id) {
             None => None,
             Some(table) => table.last_index(),
+        }
+    }
+
+    /// The least index from one on at which a group has an entry, if there is one (own). So the
+    /// entries are gone over one by one, however far apart they stand.
+    pub fn next_index(&self, raft_group_id: u64, from: u64) -> Option<u64>
+        ensures { IsNext (content_in self.now raft_group_id).entry from result }
+    {
+        match self.get_table(raft_group_id) {
+            None => None,
+            Some(table) => table.next_index(from),
         }
     }
 }
