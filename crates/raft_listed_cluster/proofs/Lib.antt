@@ -7,3 +7,8 @@ pub mod EventFacts
 pub mod StepFacts
 pub mod BeginFacts
 pub mod KeepingFacts
+pub mod LatestFacts
+pub mod RoundFacts
+pub mod NumberFacts
+pub mod RoundKeeping
+pub mod RoundHeard

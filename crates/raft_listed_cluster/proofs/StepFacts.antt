@@ -133,6 +133,7 @@ module _ {N : Type 0} (rules : MachineRules) (acts : NodeActs N) (states : NodeS
       (record {
         keeps = same_kept rules ids h (more.next.told.stand.candidates h) more.next.told.plain (noted_with k (before h)) (noted_with next (behind h)) same.2.notes same.2.stopped (asked_still h history real) on.keeps;
         grows = subst (AgreeBelow (length (list_in (notes_of (Some k) (before h)))) (list_in (notes_of (Some k) (before h)))) (sym lists) on.grows;
+        latest = λ vote other. ap (λ a. a.latest vote) same.2.notes.accounts;
       })
 
   module _ (there : IsNodeOf acts nodes sent e o nodes' later more.one.node) (taken : (why : NodeRefusal) → o ≡ outcome.Refused why → IsOpening e → ⊥) where
@@ -158,7 +159,7 @@ module _ {N : Type 0} (rules : MachineRules) (acts : NodeActs N) (states : NodeS
         subst (IsOn h (Some k)) (sym same) (other_on rules acts states law ids downs nodes sent history t e o nodes' later more h other shut k keeps)
 
     pub heard_each : (olds news : List KeptGroup) (leading : Option Leading) → ((h : ℕ) → group_of e ≡ Some h → acts.leads there.before h leading)
-        → (brought : Brought) → IsReadyFor e olds → BringsTo olds leading e brought
+        → (brought : Brought) → IsReadyFor e 1 olds → BringsTo olds leading e brought
         → (accepted : Option Acceptance) → ((h : ℕ) → group_of e ≡ Some h → accepted ≡ first_accepted (drop (length (sent h)) (later h)))
         → IsHeard more.one.node (acts.leads there.behind) e o accepted brought olds news
         → (h : ℕ) → Keeps h (kept_in olds h) → IsOn h (kept_in olds h) (kept_in news h)

@@ -1,3 +1,5 @@
 pub mod Listed
+pub mod Numbers
 pub mod Hearing
+pub mod Round
 pub mod Keeping

@@ -3,6 +3,7 @@
 
 mod hearing;
 mod listed;
+mod numbers;
 
 pub use listed::ListedCluster;
 pub use raft_cluster::{

@@ -74,7 +74,7 @@ impl<N: ClusterNode> ListedCluster<N> {
         let id = self.cluster.node_of(&event);
         let group = group_of(&event);
         let leading = leading_at(&self.cluster, id, group);
-        let brought = self.lists.prepare(&leading, &event)?;
+        let brought = self.lists.prepare(&leading, &event, 1)?;
         let count = sent_in(&self.cluster, group);
         self.cluster.step(event)?;
         if let Some(recorded) = self.cluster.history().last() {
