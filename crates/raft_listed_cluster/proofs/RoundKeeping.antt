@@ -22,7 +22,7 @@ use Rattle.raft_cluster_lists.specs.declared.kept.KeptGroup.{KeptGroup}
 use Rattle.raft_cluster_lists.specs.Brought.{Brings}
 use Rattle.raft_cluster_lists.specs.Groups.{BringsTo, IsReadyFor, kept_in}
 use Rattle.raft_cluster_lists.specs.Hearing.{group_of}
-use Rattle.raft_cluster_lists.proofs.ReadyLemmas.{less_ready}
+use Rattle.raft_cluster_lists.proofs.ReadyLemmas.{fewer_ready}
 use Rattle.raft_cluster.specs.Cluster.{Happens}
 use Rattle.raft_cluster.specs.Facts.{Sent, node_at, node_in, node_of}
 use Rattle.raft_cluster.specs.Joined.{ids_of}
@@ -34,27 +34,8 @@ use Rattle.raft_listed_cluster.specs.Listed.{OnlyGrow, lists_of}
 use Rattle.raft_listed_cluster.proofs.KeepingFacts.{step_grows, step_keeps, step_latest}
 use Rattle.raft_listed_cluster.proofs.LatestFacts.{latest_in, lead_own}
 use Rattle.raft_listed_cluster.proofs.NumberFacts.{accepts_still}
+use Rattle.raft_listed_cluster.proofs.PreparedFacts.{brings_still}
 use Rattle.raft_listed_cluster.proofs.RoundFacts.{IsElsewhere, leaves}
-
--- what an event brings goes by the list of the leader at its node alone
-brings_still : (s later : Notes) (leading : Option Leading) (e : ClusterEvent) (brought : Brought) → ((lead : Leading) → leading ≡ Some lead → (accounts_of later).latest lead.vote ≡ (accounts_of s).latest lead.vote)
-    → Brings s leading e brought → Brings later leading e brought
-brings_still s later leading (event.AddGroup n g) brought same brings = brings
-brings_still s later None (event.Ask n g call now) brought same brings = record { set_up = brings.set_up; written = brings.written }
-brings_still s later (Some lead) (event.Ask n g call now) brought same brings =
-    let W : List Entry → Type 0 = λ list. (brought.written ≡ payload_of (membership_in list) call) ⊎ ((brought.written ≡ None) × IsInvalid (membership_in list) call) in
-    record { set_up = brings.set_up; written = subst W (sym (same lead refl)) brings.written }
-brings_still s later leading (event.Deliver g number cuts now) brought same brings = brings
-brings_still s later leading (event.ResetPeer n peer) brought same brings = brings
-brings_still s later leading (event.Fuse n first_refused) brought same brings = brings
-brings_still s later leading (event.Crash n choice) brought same brings = brings
-brings_still s later leading (event.Reopen n workers) brought same brings = brings
-
-ready_less : (e : ClusterEvent) (n more : ℕ) (groups : List KeptGroup) → n ≤ more → IsReadyFor e more groups → IsReadyFor e n groups
-ready_less e n more groups less ready = record {
-  own = λ h is. let k = ready.own h is in (k.0, k.1, less_ready k.0 n more less k.2);
-  each = λ opens h kept there. less_ready kept n more less (ready.each opens h kept there);
-}
 
 abbrev count_in : Sent → Option ℕ → ℕ
 count_in sent None = 0
@@ -111,12 +92,12 @@ module _ {N : Type 0} (rules : MachineRules) (acts : NodeActs N) (states : NodeS
     pub then_keeps : KeepsLists rules acts states mid gone (history ++ real ∷ []) news
     then_keeps =
         step_keeps rules acts states law nodes sent history e o mid gone happens olds news (Some m) (sym named) pending.leading pending.tells brought
-        (ready_less e 1 (suc n) olds (omega arith) pending.ready) pending.brings (count_in sent (group_of e)) (so_many sent (group_of e)) heard_now keeps
+        (fewer_ready e 1 (suc n) olds (omega arith) pending.ready) pending.brings (count_in sent (group_of e)) (so_many sent (group_of e)) heard_now keeps
 
     pub then_grow : OnlyGrow (lists_of olds) (lists_of news)
     then_grow =
         step_grows rules acts states law nodes sent history e o mid gone happens olds news (Some m) (sym named) pending.leading pending.tells brought
-        (ready_less e 1 (suc n) olds (omega arith) pending.ready) pending.brings (count_in sent (group_of e)) (so_many sent (group_of e)) heard_now keeps
+        (fewer_ready e 1 (suc n) olds (omega arith) pending.ready) pending.brings (count_in sent (group_of e)) (so_many sent (group_of e)) heard_now keeps
 
     -- what is still to be heard stays so
     module _ (other : ClusterEvent) (id : ℕ) (its : Brought) (apart : IsElsewhere sent id e) (left : IsPending nodes olds id other its (suc n)) where
@@ -133,7 +114,7 @@ module _ {N : Type 0} (rules : MachineRules) (acts : NodeActs N) (states : NodeS
           let before = first_set_up h history in
           ap (λ w. latest_in (notes_of w asked) vote) (sym is)
           ∙ step_latest rules acts states law nodes sent history e o mid gone happens olds news (Some m) (sym named) pending.leading pending.tells brought
-          (ready_less e 1 (suc n) olds (omega arith) pending.ready) pending.brings (count_in sent (group_of e)) (so_many sent (group_of e)) heard_now keeps m named h vote not_here
+          (fewer_ready e 1 (suc n) olds (omega arith) pending.ready) pending.brings (count_in sent (group_of e)) (so_many sent (group_of e)) heard_now keeps m named h vote not_here
           ∙ ap (λ w. latest_in (notes_of w before) vote) was
 
       pub still_pending : IsPending mid news id other its n

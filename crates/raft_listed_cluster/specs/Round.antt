@@ -1,11 +1,14 @@
 -- What the lists hear of a round, once it is over.
-use Rattle.std.specs.Prelude.{◌≡◌, ℕ, Bool, true, false, List, [], ◌∷◌}
+use Rattle.std.specs.Prelude.{◌≡◌, ℕ, not, Bool, true, false, List, [], ◌∷◌, length}
+use Rattle.std.specs.List.{AllByRecursion, filter}
 use Rattle.raft_cluster_events.specs.declared.event.ClusterEvent.{ClusterEvent}
 use Rattle.raft_cluster_events.specs.declared.event.ClusterEvent.TheVariants.{AddGroup, Ask, Deliver, ResetPeer, Fuse, Crash, Reopen}
 use Rattle.raft_cluster_events.specs.declared.outcome.Recorded.{Recorded}
 use Rattle.raft_cluster_events.specs.Node.{NodeActs}
 use Rattle.raft_cluster_lists.specs.declared.brought.Brought.{Brought}
 use Rattle.raft_cluster_lists.specs.declared.kept.KeptGroup.{KeptGroup}
+use Rattle.raft_cluster_lists.specs.Groups.{IsReadyFor}
+use Rattle.raft_cluster.specs.Cluster.{events_of}
 use Rattle.raft_cluster.specs.Facts.{Sent, node_of}
 use Rattle.raft_listed_cluster.specs.Hearing.{IsHeardThen}
 
@@ -18,6 +21,15 @@ is_crash (ResetPeer node peer) = false
 is_crash (Fuse node first_refused) = false
 is_crash (Crash node choice) = true
 is_crash (Reopen node workers) = false
+
+-- those of the events of which the lists hear
+abbrev pub heard_of : List ClusterEvent → List ClusterEvent
+heard_of events = filter (λ event. not (is_crash event)) events
+
+-- there is room for all of these that are still to be heard, and what each of them brings but the crashes
+pub record AreReadyFor (records : List Recorded) (broughts : List Brought) (groups : List KeptGroup) : Type 0 where
+  pub each : AllByRecursion (λ (r : Recorded). IsReadyFor r.event (length records) groups) records
+  pub brought : length broughts ≡ length (heard_of (events_of records))
 
 -- what is heard of one record, and then of the rest
 abbrev pub HearsNext : {N : Type 0} → NodeActs N → List N → Sent → Bool → Recorded → List Brought → (List Brought → List KeptGroup → List KeptGroup → Type 0) → List KeptGroup → List KeptGroup → Type 0
