@@ -204,12 +204,12 @@ kept_on olds news goes on h at k =
     let next = on.each at k.kept k.there in
     record { kept = next.new; there = next.there; of_group = next.of_group ∙ k.of_group }
 
+pub keeps_itself : (o : Option KeptGroup) → KeepsOn IsSameGroup o o
+keeps_itself None = refl
+keeps_itself (Some kept) = (kept, refl, record { notes = record { accounts = refl; noted = refl }; stopped = λ node. refl })
+
 pub keeps_same : (groups : List KeptGroup) (h : ℕ) → KeepsOn IsSameGroup (kept_in groups h) (kept_in groups h)
-keeps_same groups h = by_kept (kept_in groups h)
-  where
-    by_kept : (o : Option KeptGroup) → KeepsOn IsSameGroup o o
-    by_kept None = refl
-    by_kept (Some kept) = (kept, refl, record { notes = record { accounts = refl; noted = refl }; stopped = λ node. refl })
+keeps_same groups h = keeps_itself (kept_in groups h)
 
 -- a slice of all of a vector, put back
 pub whole_slice : (old new : List KeptGroup) (n : ℕ) → n ≡ length old → length new ≡ length old → take n (new ++ drop (length new) old) ≡ new

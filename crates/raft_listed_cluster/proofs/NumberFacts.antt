@@ -1,6 +1,8 @@
 -- What an event's frames accept is read off their numbers, also where more was sent since.
 use Rattle.std.proofs.Common.{◌≡◌, ◌+◌, inl, inr, ℕ, zero, suc, eqb, Bool, true, false, cond, List, [], ◌∷◌, ◌++◌, Option, Some, None, Ok, Err, drop, length, slice_get, refl, sym, ap, ◌∙◌, subst, append_assoc, append-nil, arith, length-append}
 use Rattle.std.specs.Option.{option_or}
+use Rattle.std.proofs.Math.Seq.{drop-append_seam, drop-length}
+use Rattle.std.proofs.lemmas.Bool.{eqb-true}
 use Rattle.raft_list_facts.specs.declared.acceptance.Acceptance.{Acceptance}
 use Rattle.raft_sent_frames.specs.Frames.{first_accepted, numbers_from, sent_by}
 use Rattle.raft_sent_frames.specs.declared.frame.NodeFrame.{NodeFrame}
@@ -27,14 +29,6 @@ or_assoc (Some x) b c = refl
 first_of_both : (xs ys : List SentFrame) → first_accepted (xs ++ ys) ≡ option_or (first_accepted xs) (first_accepted ys)
 first_of_both [] ys = refl
 first_of_both (x ∷ xs) ys = ap (option_or x.accepts) (first_of_both xs ys) ∙ sym (or_assoc x.accepts (first_accepted xs) (first_accepted ys))
-
-drop_all : {A : Type 0} (xs : List A) → drop (length xs) xs ≡ []
-drop_all [] = refl
-drop_all (x ∷ xs) = drop_all xs
-
-drop_front : {A : Type 0} (xs ys : List A) → drop (length xs) (xs ++ ys) ≡ ys
-drop_front [] ys = refl
-drop_front (x ∷ xs) ys = drop_front xs ys
 
 -- ---- the frames of one outcome
 
@@ -88,9 +82,6 @@ after_is sent sender [] h = sym (append-nil (sent h))
 after_is sent sender (o ∷ os) h =
     after_is (sent_after_one sent sender o) sender os h ∙ ap (λ l. l ++ all_news sender os h) (after_one_is sent sender o h) ∙ append_assoc (sent h) (news_of sender o h) (all_news sender os h)
 
-same_eqb : (a b : ℕ) → eqb a b ≡ true → b ≡ a
-same_eqb a b e = grind arith
-
 module _ (sender h : ℕ) (frames : List SentFrame) where
   -- one part accepts what its frames do
   one_part : (sent : Sent) (o : NodeOutcome) (rest : List SentFrame) → ((k : ℕ) (x : SentFrame) → slice_get (sent h ++ (news_of sender o h ++ rest)) k ≡ Some x → slice_get frames k ≡ Some x)
@@ -102,7 +93,7 @@ module _ (sender h : ℕ) (frames : List SentFrame) where
       go false is those = refl
       go true is those =
           let new = sent_by sender o.frames in
-          let here : h ≡ o.group = same_eqb o.group h is in
+          let here : h ≡ o.group = sym (eqb-true o.group h is) in
           let count : length (sent o.group) ≡ length (sent h) = ap (λ g. length (sent g)) (sym here) in
           let stands : StandAt ((sent h ++ new) ++ rest) (length (sent o.group)) new =
           front_stands (sent h ++ new) rest (length (sent o.group)) new (stand_behind (sent h) new (length (sent o.group)) count) in
@@ -137,7 +128,7 @@ module _ {N : Type 0} (acts : NodeActs N) (h : ℕ) (frames : List SentFrame) wh
   Has there = (k : ℕ) (x : SentFrame) → slice_get there k ≡ Some x → slice_get frames k ≡ Some x
 
   nothing_new : (sent later : List SentFrame) → later ≡ sent → None ≡ first_accepted (drop (length sent) later)
-  nothing_new sent later same = sym (ap (λ l. first_accepted (drop (length sent) l)) same ∙ ap first_accepted (drop_all sent))
+  nothing_new sent later same = sym (ap (λ l. first_accepted (drop (length sent) l)) same ∙ ap first_accepted (drop-length sent))
 
   over_none : (error : NodeError) → accepts_by frames h (over error) ≡ None
   over_none (errors.Refused why) = refl
@@ -150,7 +141,7 @@ module _ {N : Type 0} (acts : NodeActs N) (h : ℕ) (frames : List SentFrame) wh
       let is : later h ≡ sent h ++ all_news sender outcomes h = done.sends.sends h ∙ after_is sent sender outcomes h in
       ap (accepts_by frames h) done.outcome ∙ ap (accepts_in frames h) done.sends.numbered
       ∙ all_parts sender h frames sent outcomes (λ k x there. has k x (ap (λ l. slice_get l k) is ∙ there))
-      ∙ sym (ap (λ l. first_accepted (drop (length (sent h)) l)) is ∙ ap first_accepted (drop_front (sent h) (all_news sender outcomes h)))
+      ∙ sym (ap (λ l. first_accepted (drop (length (sent h)) l)) is ∙ ap first_accepted (drop-append_seam (sent h) (all_news sender outcomes h)))
   settled sent later e old new (Ok outcomes) o has (inr lacks) = ap (accepts_by frames h) lacks.outcome ∙ nothing_new (sent h) (later h) (lacks.sends h)
   settled sent later e old new (Err error) o has is_over =
       ap (accepts_by frames h) is_over.outcome ∙ over_none error ∙ nothing_new (sent h) (later h) (is_over.sends h)

@@ -1,6 +1,7 @@
 -- A whole round, heard record by record, keeps the lists.
 use Rattle.std.proofs.Common.{◌≡◌, ℕ, suc, eqb, Bool, true, false, List, [], ◌∷◌, ◌++◌, Option, Some, None, length, refl, sym, ap, ◌∙◌, subst, arith, append_assoc, append-nil}
 use Rattle.std.specs.List.{AllByRecursion}
+use Rattle.std.proofs.lemmas.Bool.{eqb-false, ne_eqb}
 use Rattle.raft_laws.proofs.BallotAgreement.{same_some}
 use Rattle.raft_machines.specs.Machine.{MachineRules}
 use Rattle.raft_list_facts.specs.declared.leading.Leading.{Leading}
@@ -42,9 +43,6 @@ module _ {N : Type 0} (rules : MachineRules) (acts : NodeActs N) (states : NodeS
   abbrev pub ArePending : Sent → List N → List KeptGroup → ℕ → List Recorded → List Brought → Type 0
   ArePending first nodes groups n [] bs = Unit {0}
   ArePending first nodes groups n (r ∷ rs) bs = NextPending first nodes groups n (is_crash r.event) r bs (λ left. ArePending first nodes groups n rs left)
-
-  turned : (a b : ℕ) → eqb a b ≡ false → eqb b a ≡ false
-  turned a b h = grind arith
 
   -- a crash is heard as nothing
   nothing_brought : Brought
@@ -102,7 +100,7 @@ module _ {N : Type 0} (rules : MachineRules) (acts : NodeActs N) (states : NodeS
       go rest false (b ∷ bs) (one, others) =
           let here : apart.0.node ≡ one.0 = same_some (sym apart.0.named ∙ one.1) in
           let other : eqb one.0 m ≡ false = subst (λ i. eqb i m ≡ false) here apart.0.other in (
-            (one.0, one.1, on r.event one.0 b (turned one.0 m other) one.2),
+            (one.0, one.1, on r.event one.0 b (ne_eqb m one.0 (λ same. eqb-false one.0 m other (sym same))) one.2),
             rest bs others,
           )
 

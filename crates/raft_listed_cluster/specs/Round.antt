@@ -32,7 +32,8 @@ pub record AreReadyFor (records : List Recorded) (broughts : List Brought) (grou
   pub brought : length broughts ≡ length (heard_of (events_of records))
 
 -- what is heard of one record, and then of the rest
-abbrev pub HearsNext : {N : Type 0} → NodeActs N → List N → Sent → Bool → Recorded → List Brought → (List Brought → List KeptGroup → List KeptGroup → Type 0) → List KeptGroup → List KeptGroup → Type 0
+abbrev pub HearsNext : {N : Type 0} → NodeActs N → List N → Sent → Bool → Recorded → List Brought
+    → (List Brought → List KeptGroup → List KeptGroup → Type 0) → List KeptGroup → List KeptGroup → Type 0
 HearsNext acts nodes sent true r broughts rest olds news = rest broughts olds news
 HearsNext acts nodes sent false r [] rest olds news = ⊥
 HearsNext acts nodes sent false r (b ∷ bs) rest olds news =

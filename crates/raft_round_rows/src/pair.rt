@@ -3,7 +3,7 @@ use raft_cluster_events::ClusterNode;
 use raft_cluster_script::{event_of, outcome_text};
 use raft_listed_cluster::{ClusterEvent, ListedCluster, RoundRefusal};
 use raft_machines::AddingMachine;
-use raft_nodes_on_files::{FileNode, log_settings};
+use raft_nodes_on_files::{FileNode, log_settings, run_on_files, run_round_on_files};
 use raft_script_lines::{ScriptLine, read_line};
 use std::alloc::{AllocError, Global};
 use std::thread::Threads;
@@ -151,9 +151,9 @@ impl Pair {
         self.tokens = tokens;
         let same = self.events(line)?;
         let at = self.rounds.history().len();
-        match self.rounds.run_round(rt, events) {
+        match run_round_on_files(rt, &mut self.rounds, events) {
             Ok(count) => {
-                if self.alone.run(same) == count {
+                if run_on_files(&mut self.alone, same) == count {
                     self.outcomes(at)
                 } else {
                     String::from_str(self.alloc, "another number")
