@@ -23,6 +23,10 @@ count_left : (r : Recorded) (rs : List Recorded) (b : Bool) (n : ℕ) → is_cra
     → n ≡ length (cond (not b) (r.event ∷ heard_of (events_of rs)) (heard_of (events_of rs)))
 count_left r rs b n is count = count ∙ ap (λ w. length (cond (not w) (r.event ∷ heard_of (events_of rs)) (heard_of (events_of rs)))) is
 
+-- the next one has room
+pub ready_now : (r : Recorded) (rs : List Recorded) (bs : List Brought) (groups : List KeptGroup) → AreReadyFor (r ∷ rs) bs groups → IsReadyFor r.event 1 groups
+ready_now r rs bs groups ready = fewer_ready r.event 1 (suc (length rs)) groups (omega arith) ready.each.0
+
 pub ready_past : (r : Recorded) (rs : List Recorded) (bs : List Brought) (groups : List KeptGroup) → is_crash r.event ≡ true → AreReadyFor (r ∷ rs) bs groups → AreReadyFor rs bs groups
 ready_past r rs bs groups crash ready = record {
   each = all_fewer (length rs) groups groups (λ e all. fewer_ready e (length rs) (suc (length rs)) groups (omega arith) all) rs ready.each.1;
@@ -35,10 +39,6 @@ ready_on r rs b bs olds news here room ready = record {
   each = all_fewer (length rs) olds news (λ e all. room (length rs) e all) rs ready.each.1;
   brought = let count = count_left r rs false (suc (length bs)) here ready.brought in omega arith;
 }
-
--- what it brings is there
-pub some_brought : (r : Recorded) (rs : List Recorded) (bs : List Brought) (groups : List KeptGroup) → is_crash r.event ≡ false → AreReadyFor (r ∷ rs) bs groups → length bs ≡ 0 → ⊥
-some_brought r rs bs groups here ready none = let count = count_left r rs false (length bs) here ready.brought in omega arith
 
 module _ {N : Type 0} (acts : NodeActs N) (nodes : List N) (sent : Sent) where
   pub hears_past : (r : Recorded) (rs : List Recorded) (bs : List Brought) (olds news : List KeptGroup) → is_crash r.event ≡ true → HearsRound acts nodes sent rs bs olds news → HearsRound acts nodes sent (r ∷ rs) bs olds news

@@ -125,21 +125,13 @@ module _ {N : Type 0} (acts : NodeActs N) (nodes : List N) (sent : Sent) (n : �
   abbrev not_crash : ClusterEvent → Bool
   not_crash event = not (is_crash event)
 
-  pub prepared_more : (events : List ClusterEvent) (i : ℕ) (d : ClusterEvent) (olds news : List KeptGroup) (broughts : List Brought) (brought : Brought) → i < length events
-      → is_crash (get_or events i d) ≡ false → IsPreparedFor (get_or events i d) olds news → KeepReady n n olds news → IsPreparedSo acts nodes sent n news (get_or events i d) brought
+  pub prepared_more : (events : List ClusterEvent) (i : ℕ) (x : ClusterEvent) (olds news : List KeptGroup) (broughts : List Brought) (brought : Brought) → i < length events → x ≡ get_or events i x
+      → is_crash x ≡ false → IsPreparedFor x olds news → KeepReady n n olds news → IsPreparedSo acts nodes sent n news x brought
       → ArePrepared acts nodes sent n olds (take i events) broughts → ArePrepared acts nodes sent n news (take (i + 1) events) (broughts ++ brought ∷ [])
-  prepared_more events i d olds news broughts brought lt here on keep so all =
-      let x = get_or events i d in
-      let heard : heard_of (take (i + 1) events) ≡ heard_of (take i events) ++ x ∷ [] =
-      filter_more not_crash events i d lt ∙ ap (λ b. heard_of (take i events) ++ cond (not b) (x ∷ []) []) here in
+  prepared_more events i x olds news broughts brought lt is here on keep so all =
+      let front = heard_of (take i events) in
+      let heard : heard_of (take (i + 1) events) ≡ front ++ x ∷ [] =
+      filter_more not_crash events i x lt ∙ ap (λ y. front ++ cond (not (is_crash y)) (y ∷ []) []) (sym is) ∙ ap (λ b. front ++ cond (not b) (x ∷ []) []) here in
       subst (λ es. AllZip (IsPreparedSo acts nodes sent n news) es (broughts ++ brought ∷ [])) (sym heard)
-      (zip_push (IsPreparedSo acts nodes sent n news) (heard_of (take i events)) broughts x brought
-      (zip_weaker (IsPreparedSo acts nodes sent n olds) (IsPreparedSo acts nodes sent n news) (still_prepared olds news x on keep) (heard_of (take i events)) broughts all) so)
-
-  pub prepared_past : (events : List ClusterEvent) (i : ℕ) (d : ClusterEvent) (groups : List KeptGroup) (broughts : List Brought) → i < length events → is_crash (get_or events i d) ≡ true
-      → ArePrepared acts nodes sent n groups (take i events) broughts → ArePrepared acts nodes sent n groups (take (i + 1) events) broughts
-  prepared_past events i d groups broughts lt crash all =
-      let x = get_or events i d in
-      let heard : heard_of (take (i + 1) events) ≡ heard_of (take i events) =
-      filter_more not_crash events i d lt ∙ ap (λ b. heard_of (take i events) ++ cond (not b) (x ∷ []) []) crash ∙ append-nil (heard_of (take i events)) in
-      subst (λ es. AllZip (IsPreparedSo acts nodes sent n groups) es broughts) (sym heard) all
+      (zip_push (IsPreparedSo acts nodes sent n news) front broughts x brought
+      (zip_weaker (IsPreparedSo acts nodes sent n olds) (IsPreparedSo acts nodes sent n news) (still_prepared olds news x on keep) front broughts all) so)
