@@ -1,4 +1,4 @@
-use Rattle.std.proofs.Common.{◌≡◌, ℕ, Option, Some, None, refl, sym, ◌∙◌, subst}
+use Rattle.std.proofs.Common.{◌≡◌, ℕ, Option, Some, None, refl, sym, ap, ◌∙◌, subst}
 use Rattle.raft_sent_frames.specs.Frames.{frames_of}
 use Rattle.raft_cluster_lists.proofs.ReadyLemmas.{keep_less}
 use Rattle.raft_cluster.specs.Facts.{node_at, node_of}
@@ -15,7 +15,7 @@ returns-in_default g c =
     let recorded = c.args.recorded.now in
     let lists = c.args.lists.now in
     let accepted = c.accepted_by-accepted.result in
-    let none : node_at acts nodes (node_of sent recorded.event) ≡ None = ? in
+    let none : node_at acts nodes (node_of sent recorded.event) ≡ None = ap (node_at acts nodes) (sym c.node_of.ensures) ∙ sym (c.in_default.ensures tt) in
     let H : Option g.row.N.Denot → Type 0 = λ w. IsHeardBy acts w recorded.event recorded.outcome accepted c.args.brought lists lists in
     let A : Option ℕ → Type 0 = λ w. AcceptsBy sent w recorded.outcome accepted in
     record {

@@ -5,7 +5,6 @@ use Rattle.std.proofs.lemmas.List.Elements.{Contains-get_or}
 use Rattle.raft_sent_frames.specs.Frames.{frames_of}
 use Rattle.raft_cluster_events.specs.declared.event.ClusterEvent.{ClusterEvent}
 use Rattle.raft_cluster_lists.specs.declared.brought.Brought.{Brought}
-use Rattle.raft_cluster_lists.specs.Groups.{KeepReady}
 use Rattle.raft_listed_cluster.specs.Preparing.{ArePrepared, IsPreparedSo}
 use Rattle.raft_listed_cluster.specs.Round.{is_crash}
 use Rattle.raft_listed_cluster.proofs.PreparedFacts.{more_prepared, nothing_prepared, prepared_more}
@@ -50,9 +49,7 @@ loop-event-preserved g c =
     let b = c.in_ok-brought.brought in
     let n = length events in
     let here : is_crash x ≡ false = sym c.is_crash.ensures ∙ c.if-is_crash.false in
-    let keep = subst (λ m. KeepReady m m olds news) c.len.ensures c.in_ok-brought.ensures.keep in
-    let so = subst (λ m. IsPreparedSo acts nodes sent m news x b) c.len.ensures c.in_ok-brought.ensures.prepared in
-    let all = prepared_more acts nodes sent n events at x olds news c.loop-event.broughts.items b within c.event-item.is here c.prepare_event.ensures.groups keep so c.loop-event.invariant.prepared in
+    let all = prepared_more acts nodes sent n events at x olds news c.loop-event.broughts.items b within c.event-item.is here c.prepare_event.ensures.groups c.in_ok-brought.ensures.keep c.in_ok-brought.ensures.prepared c.loop-event.invariant.prepared in
     record {
       groups = more_prepared events x c.args.lists.now olds news (among events at x within c.event-item.is) c.loop-event.invariant.groups c.prepare_event.ensures.groups;
       prepared = subst (ArePrepared acts nodes sent n news (take (at + 1) events)) (sym c.in_ok-push.ensures.items) all;
