@@ -1,6 +1,7 @@
 -- A round that ran: what is heard of it, record by record, keeps the lists.
-use Rattle.std.proofs.Common.{◌≡◌, ◌⊎◌, ◌≤◌, inl, inr, ℕ, not, Bool, true, false, cond, List, [], ◌∷◌, Option, Some, None, length, refl, sym, ap, ◌∙◌, subst, arith, ⊎_elim}
+use Rattle.std.proofs.Common.{◌≡◌, ◌⊎◌, ◌-◌, ◌≤◌, inl, inr, ℕ, not, Bool, true, false, cond, List, [], ◌∷◌, ◌++◌, Option, Some, None, drop, length, take, refl, sym, ap, ◌∙◌, subst, arith, length-append, ⊎_elim}
 use Rattle.std.specs.List.{AllByRecursion, AllZip}
+use Rattle.std.proofs.Math.Seq.{drop-append_seam, take-length}
 use Rattle.std.proofs.lemmas.List.{length-map}
 use Rattle.std.proofs.lemmas.Slice.Zip.{AllZip-long}
 use Rattle.raft_laws.proofs.BallotAgreement.{same_some}
@@ -147,6 +148,13 @@ module _ {N : Type 0} (rules : MachineRules) (acts : NodeActs N) (states : NodeS
       go rest false (b ∷ bs) all = ((f.id, f.node, one_pending f.id r.event b f.node all.0), rest bs all.1)
 
 -- ---- the whole round
+
+-- what the history has behind its past
+pub behind_past : (past records before now : List Recorded) → now ≡ past ++ records → before ≡ past → take (length now - length before) (drop (length before) now) ≡ records
+behind_past past records before now is same =
+    let rest : drop (length before) now ≡ records = ap (λ xs. drop (length xs) now) same ∙ ap (drop (length past)) is ∙ drop-append_seam past records in
+    let count : length now - length before ≡ length records = omega (arith, ap length is, ap length same, length-append past records) in
+    ap (λ n. take n (drop (length before) now)) count ∙ ap (take (length records)) rest ∙ take-length records
 
 module _ {N : Type 0} (acts : NodeActs N) (old new : ClusterValue N) (asked : List ClusterEvent) (number : ℕ) (rounds : Rounds acts old asked number new) (olds : List KeptGroup) (bs : List Brought)
     (prepared : ArePrepared acts old.nodes (frames_of old.sent) (length asked) olds asked bs) where

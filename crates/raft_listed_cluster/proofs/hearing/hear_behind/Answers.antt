@@ -15,7 +15,7 @@ returns-in_default g c =
     let recorded = c.args.recorded.now in
     let lists = c.args.lists.now in
     let accepted = c.accepted_by-accepted.result in
-    let none : node_at acts nodes (node_of sent recorded.event) ≡ None = ap (node_at acts nodes) (sym c.node_of.ensures) ∙ sym (c.in_default.ensures tt) in
+    let none : node_at acts nodes (node_of sent recorded.event) ≡ None = ap (node_at acts nodes) (sym c.node_of.ensures) ∙ sym c.in_default.ensures in
     let H : Option g.row.N.Denot → Type 0 = λ w. IsHeardBy acts w recorded.event recorded.outcome accepted c.args.brought lists lists in
     let A : Option ℕ → Type 0 = λ w. AcceptsBy sent w recorded.outcome accepted in
     record {
