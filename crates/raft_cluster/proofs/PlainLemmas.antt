@@ -171,7 +171,7 @@ or_more : (a b c : Option Membership) → option_or a (option_or b c) ≡ option
 or_more None b c = refl
 or_more (Some x) b c = refl
 
-first_more : (h : ℕ) (rs : List Recorded) (r : Recorded) → first_set_up h (rs ++ r ∷ []) ≡ option_or (first_set_up h rs) (set_up_by h r)
+pub first_more : (h : ℕ) (rs : List Recorded) (r : Recorded) → first_set_up h (rs ++ r ∷ []) ≡ option_or (first_set_up h rs) (set_up_by h r)
 first_more h [] r = or_none (set_up_by h r)
 first_more h (x ∷ xs) r = ap (option_or (set_up_by h x)) (first_more h xs r) ∙ or_more (set_up_by h x) (first_set_up h xs) (set_up_by h r)
 
@@ -189,7 +189,7 @@ SetUpsAgree history plain = (h : ℕ) → (setup_by h plain ≡ None) ⊎ (setup
 abbrev pub IsFreeSetUp : List Recorded → Recorded → Type 0
 IsFreeSetUp history r = (h : ℕ) (m : Membership) → set_up_by h r ≡ Some m → differs history h m ≡ false
 
-same_as_first : (first m : Membership) → not (membership_eq first m) ≡ false → first ≡ m
+pub same_as_first : (first m : Membership) → not (membership_eq first m) ≡ false → first ≡ m
 same_as_first first m e = equal_memberships first m (go (membership_eq first m) e)
   where
     go : (b : Bool) → not b ≡ false → b ≡ true

@@ -128,6 +128,14 @@ impl<N: ClusterNode> Cluster<N> {
         node_of(&self.sent, event)
     }
 
+    /// Whether these events make a round: each is for another node, and delivers no frame that wasn't
+    /// sent yet. A round that isn't one is refused (C8).
+    pub fn is_round(&self, events: &[ClusterEvent]) -> bool
+        ensures { result ≡ is_round (frames_of self.now.sent) events.now }
+    {
+        is_round(&self.sent, events)
+    }
+
     /// The group's frames, lent, in the order of sending.
     pub fn frames(&self, group: u64) -> &[SentFrame]
         ensures { result.now ≡ frames_of self.now.sent group }

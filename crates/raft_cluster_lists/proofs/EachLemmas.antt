@@ -5,16 +5,15 @@ use Rattle.std.proofs.lemmas.Bool.{cases_eq, cases_lt}
 use Rattle.std.proofs.lemmas.Option.{slice_get_within}
 use Rattle.raft_cluster_lists.specs.declared.kept.KeptGroup.{KeptGroup}
 use Rattle.raft_cluster_lists.specs.declared.kept.StoppedCall.{StoppedCall}
-use Rattle.raft_cluster_lists.specs.Groups.{IsSameGroup}
-use Rattle.raft_cluster_lists.specs.Lists.{AreSame, IsReady, stopped_at}
-use Rattle.raft_cluster_lists.specs.Places.{AreReady, EachGoesOn, GoesOnAlone, GoesOnAt}
+use Rattle.raft_cluster_lists.specs.Lists.{AreSame, IsReady, TakesOne, stopped_at}
+use Rattle.raft_cluster_lists.specs.Places.{AreReady, EachGoesOn, GoesOnAlone, GoesOnAt, IsNoLess}
 use Rattle.raft_laws.proofs.BallotAgreement.{same_some}
 use Rattle.raft_cluster_lists.proofs.PlaceLemmas.{old_at}
 
-pub set_here : {A : Type 0} (xs : List A) (at : ℕ) (x y : A) → slice_get xs at ≡ Some x → slice_get (slice_set xs at y) at ≡ Some y
-set_here [] at x y e = absurd (let no : None ≡ Some x = e in cc)
-set_here (z ∷ zs) zero x y e = refl
-set_here (z ∷ zs) (suc at) x y e = set_here zs at x y e
+pub set_here : {A : Type 0} (xs : List A) (at : ℕ) (y : A) → at < length xs → slice_get (slice_set xs at y) at ≡ Some y
+set_here [] at y within = absurd (omega arith)
+set_here (z ∷ zs) zero y within = refl
+set_here (z ∷ zs) (suc at) y within = set_here zs at y (omega (arith, within))
 
 set_elsewhere : {A : Type 0} (xs : List A) (at other : ℕ) (y : A) → (other ≡ at → ⊥) → slice_get (slice_set xs at y) other ≡ slice_get xs other
 set_elsewhere [] at other y differs = refl
@@ -45,7 +44,7 @@ module _ (goes : ℕ → KeptGroup → KeptGroup → Type 0) (n : ℕ) (olds new
             subst (λ (k : KeptGroup). GoesOnAt goes (slice_set news n y) at k) is
             (record {
               new = y;
-              there = ap (slice_get (slice_set news n y)) here ∙ set_here news n x y there;
+              there = ap (slice_get (slice_set news n y)) here ∙ set_here news n y (slice_get_within news n x there);
               of_group = same;
               goes_on = step;
             }))
@@ -93,22 +92,37 @@ weaker goes by n olds news less on =
 
 -- ---- room
 
-pub record IsSameWithRoom (old new : KeptGroup) : Type 0 where
-  pub same : IsSameGroup old new
-  pub ready : IsReady new
+pub record IsNoLessWithRoom (events : ℕ) (old new : KeptGroup) : Type 0 where
+  pub same : IsNoLess old new
+  pub ready : IsReady new events
 
-pub stays_same : (kept : KeptGroup) → IsSameGroup kept kept
-stays_same kept = record { notes = record { accounts = refl; noted = refl }; stopped = λ node. refl }
+pub stays_same : (kept : KeptGroup) → IsNoLess kept kept
+stays_same kept = record { same = record { notes = record { accounts = refl; noted = refl }; stopped = λ node. refl }; room = λ n ready. ready }
 
-pub same_items : (one other : KeptGroup) → AreSame one.list.notes other.list.notes → other.stopped.items ≡ one.stopped.items → IsSameGroup one other
-same_items one other notes items = record { notes = notes; stopped = λ node. ap (λ (xs : List StoppedCall). stopped_at xs node) items }
+pub same_items : (one other : KeptGroup) → AreSame one.list.notes other.list.notes → other.stopped.items ≡ one.stopped.items → ((n : ℕ) → IsReady one n → IsReady other n) → IsNoLess one other
+same_items one other notes items room =
+    record { same = record { notes = notes; stopped = λ node. ap (λ (xs : List StoppedCall). stopped_at xs node) items }; room = room }
 
-pub each_ready : (olds news : List KeptGroup) → EachGoesOn (λ h. IsSameWithRoom) olds news → AreReady news
-each_ready olds news on at kept there =
-    let old = old_at olds news (λ h. IsSameWithRoom) on at kept there in
+pub each_ready : (events : ℕ) (olds news : List KeptGroup) → EachGoesOn (λ h. IsNoLessWithRoom events) olds news → AreReady news events
+each_ready events olds news on at kept there =
+    let old = old_at olds news (λ h. IsNoLessWithRoom events) on at kept there in
     let next = on.each at old.0 old.1 in
     let both : Some next.new ≡ Some kept = sym next.there ∙ there in
-    subst (λ (k : KeptGroup). IsReady k) (same_some both) next.goes_on.ready
+    subst (λ (k : KeptGroup). IsReady k events) (same_some both) next.goes_on.ready
+
+-- a group goes on, and takes room for one event
+pub record GoesOnTakingOne (goes : ℕ → KeptGroup → KeptGroup → Type 0) (h : ℕ) (old new : KeptGroup) : Type 0 where
+  pub goes_on : goes h old new
+  pub room : TakesOne old new
+
+pub each_weaker : (goes by : ℕ → KeptGroup → KeptGroup → Type 0) (olds news : List KeptGroup) → ((h : ℕ) (old new : KeptGroup) → goes h old new → by h old new) → EachGoesOn goes olds news → EachGoesOn by olds news
+each_weaker goes by olds news less on =
+    record {
+      size = on.size;
+      each = λ at old e.
+          let next = on.each at old e in
+          record { new = next.new; there = next.there; of_group = next.of_group; goes_on = less old.group old next.new next.goes_on };
+    }
 
 -- ---- one group
 
@@ -121,7 +135,7 @@ module _ (goes : ℕ → KeptGroup → KeptGroup → Type 0) (groups : List Kept
             let was : Some x ≡ Some old = sym there ∙ e in
             let is : x ≡ old = same_some was in
             subst (λ (k : KeptGroup). GoesOnAt goes (slice_set groups at y) at k) is
-            (record { new = y; there = set_here groups at x y there; of_group = same; goes_on = step });
+            (record { new = y; there = set_here groups at y (slice_get_within groups at x there); of_group = same; goes_on = step });
         others = λ other differs. set_elsewhere groups at other y differs;
       }
 

@@ -25,6 +25,15 @@ use Rattle.raft_cluster_lists.proofs.HaltsOn.{halted_on}
 use Rattle.raft_cluster_lists.proofs.OthersOn.{IsAside, aside_on, opened_on, opening_done, opening_seen, others_aside, passed_on, unopened_on, untouched_aside, untouched_opened}
 use Rattle.raft_cluster_lists.proofs.PlainEvents.{away_passed, call_done, halt_seen, itself}
 
+pub opens : (e : ClusterEvent) → IsOpening e ⊎ (IsOpening e → ⊥)
+opens (event.AddGroup n g) = inr (λ never. never)
+opens (event.Ask n g call now) = inr (λ never. never)
+opens (event.Deliver g number cuts now) = inr (λ never. never)
+opens (event.ResetPeer n peer) = inr (λ never. never)
+opens (event.Fuse n first_refused) = inr (λ never. never)
+opens (event.Crash n choice) = inr (λ never. never)
+opens (event.Reopen n workers) = inl tt
+
 -- a refusal neither stops nor is turned away
 pub record IsGoing (o : ClusterOutcome) : Type 0 where
   pub goes : is_stopped o ≡ false
@@ -110,15 +119,6 @@ module _ (rules : MachineRules) (ids : List ℕ) (fit : AreNodeIds ids) (h : ℕ
   pub nothing_goes_on : (o : EventOutcome) (r : Recorded) (olds news : List NodeState) → NothingGoesOn rules ids h plain e o r olds news
   nothing_goes_on o r olds news c old new there was = go (opens e)
     where
-      opens : (x : ClusterEvent) → IsOpening x ⊎ (IsOpening x → ⊥)
-      opens (event.AddGroup n g) = inr (λ never. never)
-      opens (event.Ask n g call now) = inr (λ never. never)
-      opens (event.Deliver g number cuts now) = inr (λ never. never)
-      opens (event.ResetPeer n peer) = inr (λ never. never)
-      opens (event.Fuse n first_refused) = inr (λ never. never)
-      opens (event.Crash n choice) = inr (λ never. never)
-      opens (event.Reopen n workers) = inl tt
-
       aside_there : (seen : Seen) → seen_by h r ≡ seen → IsAside seen → IsUntouched new.world
       aside_there seen is a = untouched_aside rules ids fit h plain r olds news old new there seen is a was
 

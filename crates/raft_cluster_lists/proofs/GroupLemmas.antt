@@ -1,10 +1,8 @@
 -- What is kept of all groups, before an event and behind it.
-use Rattle.std.specs.Prelude.{◌≡◌, ◌⊎◌, ◌==◌, ℕ, List, [], ◌∷◌, ◌++◌, slice_get, Option, Some, None, refl}
-use Rattle.std.specs.Option.{option_or}
+use Rattle.std.specs.Prelude.{◌≡◌, ◌⊎◌, ℕ, List, [], slice_get, Option, Some, None, refl}
 use Rattle.std.proofs.Common.{inl, inr, sym, ap, ◌∙◌, subst, ⊎_elim}
-use Rattle.std.proofs.lemmas.Bool.{cases_eq, cond-false, cond-true}
+use Rattle.std.proofs.lemmas.Bool.{cases_eq}
 use Rattle.std.proofs.lemmas.Bool.Decides.{eqb_tells}
-use Rattle.std.proofs.lemmas.List.Folds.{find-append}
 use Rattle.raft_list_facts.specs.declared.acceptance.Acceptance.{Acceptance}
 use Rattle.raft_cluster_events.specs.declared.outcome.EventOutcome.{EventOutcome}
 use Rattle.raft_list_facts.specs.declared.leading.Leading.{Leading}
@@ -20,25 +18,7 @@ use Rattle.raft_cluster_lists.specs.Lists.{AreSame, IsReady, stopped_at}
 use Rattle.raft_group_lists.specs.Notes.{Notes, no_notes}
 use Rattle.raft_cluster_lists.specs.Places.{AreKeptSo, ArePlaces, AreReady, EachGoesOn, GoesOnAlone, IsAddedLast, IsKeptAt, IsPreparedAt}
 use Rattle.raft_laws.proofs.BallotAgreement.{same_some}
-use Rattle.raft_cluster_lists.proofs.PlaceLemmas.{found, keeps_on, kept_at, kept_there, places_stay}
-
--- ---- a group more
-
-added_here : (groups : List KeptGroup) (kept : KeptGroup) → kept_in groups kept.group ≡ None → kept_in (groups ++ kept ∷ []) kept.group ≡ Some kept
-added_here groups kept none =
-    find-append (λ (x : KeptGroup). x.group == kept.group) groups (kept ∷ [])
-    ∙ ap (λ (o : Option KeptGroup). option_or o (kept_in (kept ∷ []) kept.group)) none
-    ∙ ⊎_elim (λ same. cond-true (kept.group == kept.group) (Some kept) None same.0) (λ no. absurd (no.1 refl)) (eqb_tells kept.group kept.group)
-
-or_none : (o : Option KeptGroup) → option_or o None ≡ o
-or_none None = refl
-or_none (Some x) = refl
-
-added_elsewhere : (groups : List KeptGroup) (kept : KeptGroup) (h : ℕ) → (h ≡ kept.group → ⊥) → kept_in (groups ++ kept ∷ []) h ≡ kept_in groups h
-added_elsewhere groups kept h differs =
-    find-append (λ (x : KeptGroup). x.group == h) groups (kept ∷ [])
-    ∙ ap (option_or (kept_in groups h)) (⊎_elim (λ same. absurd (differs (sym same.1))) (λ no. cond-false (kept.group == h) (Some kept) None no.0) (eqb_tells kept.group h))
-    ∙ or_none (kept_in groups h)
+use Rattle.raft_cluster_lists.proofs.PlaceLemmas.{added_elsewhere, added_here, found, keeps_on, kept_at, kept_there, places_stay}
 
 -- ---- before an event
 
@@ -91,17 +71,17 @@ opening_alone (Reopen node workers) g opens e = let f : None ≡ Some g = e in c
 
 -- the event's group stands there, and is prepared
 module _ (places : ℕ → Option ℕ) (groups : List KeptGroup) (are : ArePlaces places groups) (event : ClusterEvent) (g at : ℕ) (of_group : group_of event ≡ Some g) (own : IsKeptAt groups g at)
-    (leading : Option Leading) (brought : Brought) (is : IsPreparedAt groups at leading event brought) where
+    (leading : Option Leading) (n : ℕ) (brought : Brought) (is : IsPreparedAt groups at leading event n brought) where
   is_own : own.kept ≡ is.kept
   is_own = same_some (sym own.there ∙ is.there)
 
-  found_own : (h : ℕ) → group_of event ≡ Some h → kept_in groups h ≡ Some is.kept
+  pub found_own : (h : ℕ) → group_of event ≡ Some h → kept_in groups h ≡ Some is.kept
   found_own h e =
       let same : h ≡ g = same_some (sym e ∙ of_group) in
       let of_kept : is.kept.group ≡ h = ap (λ (x : KeptGroup). x.group) (sym is_own) ∙ own.of_group ∙ sym same in
       subst (λ (n : ℕ). kept_in groups n ≡ Some is.kept) of_kept (kept_there places groups are at is.kept is.there)
 
-  pub ready_for : IsReadyFor event groups
+  pub ready_for : IsReadyFor event n groups
   ready_for =
       record {
         own = λ h e. (is.kept, found_own h e, is.ready);
@@ -163,8 +143,8 @@ module _ (event : ClusterEvent) (none : group_of event ≡ None) where
   of_none : (h : ℕ) → group_of event ≡ Some h → ⊥
   of_none h e = let f : None ≡ Some h = sym none ∙ e in cc
 
-  pub all_ready : (groups : List KeptGroup) → AreReady groups → IsReadyFor event groups
-  all_ready groups ready =
+  pub all_ready : (n : ℕ) (groups : List KeptGroup) → AreReady groups n → IsReadyFor event n groups
+  all_ready n groups ready =
       record {
         own = λ h e. absurd (of_none h e);
         each = λ opens h kept e. let at = found groups h kept e in ready at.0 kept at.1;
@@ -194,17 +174,17 @@ module _ (event : ClusterEvent) (g : ℕ) (of_group : group_of event ≡ Some g)
       }
 
   -- it is kept, and ready
-  pub own_kept : (groups : List KeptGroup) → IsReadyFor event groups → kept_in groups g ≡ None → ⊥
-  own_kept groups ready none =
+  pub own_kept : (n : ℕ) (groups : List KeptGroup) → IsReadyFor event n groups → kept_in groups g ≡ None → ⊥
+  own_kept n groups ready none =
       let own = ready.own g of_group in
       let f : None ≡ Some own.0 = sym none ∙ own.1 in cc
 
-  pub own_ready : (places : ℕ → Option ℕ) (groups : List KeptGroup) → ArePlaces places groups → IsReadyFor event groups → (at : ℕ) → places g ≡ Some at → (kept : KeptGroup) → slice_get groups at ≡ Some kept → IsReady kept
-  own_ready places groups are ready at here kept there =
+  pub own_ready : (n : ℕ) (places : ℕ → Option ℕ) (groups : List KeptGroup) → ArePlaces places groups → IsReadyFor event n groups → (at : ℕ) → places g ≡ Some at → (kept : KeptGroup) → slice_get groups at ≡ Some kept → IsReady kept n
+  own_ready n places groups are ready at here kept there =
       let own = ready.own g of_group in
       let same : own.0 ≡ kept = same_some (sym own.1 ∙ kept_at places groups are g at here ∙ there) in
-      subst (λ (k : KeptGroup). IsReady k) same own.2
+      subst (λ (k : KeptGroup). IsReady k n) same own.2
 
-pub each_is_ready : (event : ClusterEvent) (places : ℕ → Option ℕ) (groups : List KeptGroup) → ArePlaces places groups → IsReadyFor event groups → IsOpening event
-    → (at : ℕ) (kept : KeptGroup) → slice_get groups at ≡ Some kept → IsReady kept
-each_is_ready event places groups are ready opens at kept there = ready.each opens kept.group kept (kept_there places groups are at kept there)
+pub each_is_ready : (event : ClusterEvent) (n : ℕ) (places : ℕ → Option ℕ) (groups : List KeptGroup) → ArePlaces places groups → IsReadyFor event n groups → IsOpening event
+    → (at : ℕ) (kept : KeptGroup) → slice_get groups at ≡ Some kept → IsReady kept n
+each_is_ready event n places groups are ready opens at kept there = ready.each opens kept.group kept (kept_there places groups are at kept there)

@@ -11,3 +11,4 @@ pub mod StopLemmas
 pub mod PlaceLemmas
 pub mod EachLemmas
 pub mod GroupLemmas
+pub mod ReadyLemmas

@@ -1,6 +1,8 @@
 -- What is kept of a group stands at its place, and goes on there.
 use Rattle.std.specs.Prelude.{◌≡◌, ◌⊎◌, ◌==◌, ◌≤◌, ℕ, zero, suc, false, List, [], ◌∷◌, ◌++◌, drop, length, slice_get, take, Option, Some, None, refl}
 use Rattle.std.proofs.Common.{inl, inr, sym, ap, ◌∙◌, arith, subst, ⊎_elim}
+use Rattle.std.specs.Option.{option_or}
+use Rattle.std.proofs.lemmas.List.Folds.{find-append}
 use Rattle.std.proofs.lemmas.Bool.{cond-false, cond-true}
 use Rattle.std.proofs.lemmas.Bool.Decides.{eqb_tells, nat_tests}
 use Rattle.std.specs.BTreeMap.{BTreeMap, UpdatesBy, get, is_at}
@@ -202,12 +204,12 @@ kept_on olds news goes on h at k =
     let next = on.each at k.kept k.there in
     record { kept = next.new; there = next.there; of_group = next.of_group ∙ k.of_group }
 
+pub keeps_itself : (o : Option KeptGroup) → KeepsOn IsSameGroup o o
+keeps_itself None = refl
+keeps_itself (Some kept) = (kept, refl, record { notes = record { accounts = refl; noted = refl }; stopped = λ node. refl })
+
 pub keeps_same : (groups : List KeptGroup) (h : ℕ) → KeepsOn IsSameGroup (kept_in groups h) (kept_in groups h)
-keeps_same groups h = by_kept (kept_in groups h)
-  where
-    by_kept : (o : Option KeptGroup) → KeepsOn IsSameGroup o o
-    by_kept None = refl
-    by_kept (Some kept) = (kept, refl, record { notes = record { accounts = refl; noted = refl }; stopped = λ node. refl })
+keeps_same groups h = keeps_itself (kept_in groups h)
 
 -- a slice of all of a vector, put back
 pub whole_slice : (old new : List KeptGroup) (n : ℕ) → n ≡ length old → length new ≡ length old → take n (new ++ drop (length new) old) ≡ new
@@ -217,3 +219,19 @@ whole_slice old new n all same =
 
 pub through_slice : (P : List KeptGroup → Type 0) (old new : List KeptGroup) (n : ℕ) → n ≡ length old → length new ≡ length old → P new → P (take n (new ++ drop (length new) old))
 through_slice P old new n all same here = subst P (sym (whole_slice old new n all same)) here
+
+pub added_here : (groups : List KeptGroup) (kept : KeptGroup) → kept_in groups kept.group ≡ None → kept_in (groups ++ kept ∷ []) kept.group ≡ Some kept
+added_here groups kept none =
+    find-append (λ (x : KeptGroup). x.group == kept.group) groups (kept ∷ [])
+    ∙ ap (λ (o : Option KeptGroup). option_or o (kept_in (kept ∷ []) kept.group)) none
+    ∙ ⊎_elim (λ same. cond-true (kept.group == kept.group) (Some kept) None same.0) (λ no. absurd (no.1 refl)) (eqb_tells kept.group kept.group)
+
+or_none : (o : Option KeptGroup) → option_or o None ≡ o
+or_none None = refl
+or_none (Some x) = refl
+
+pub added_elsewhere : (groups : List KeptGroup) (kept : KeptGroup) (h : ℕ) → (h ≡ kept.group → ⊥) → kept_in (groups ++ kept ∷ []) h ≡ kept_in groups h
+added_elsewhere groups kept h differs =
+    find-append (λ (x : KeptGroup). x.group == h) groups (kept ∷ [])
+    ∙ ap (option_or (kept_in groups h)) (⊎_elim (λ same. absurd (differs (sym same.1))) (λ no. cond-false (kept.group == h) (Some kept) None no.0) (eqb_tells kept.group h))
+    ∙ or_none (kept_in groups h)

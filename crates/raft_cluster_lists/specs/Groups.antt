@@ -55,10 +55,15 @@ abbrev pub IsPreparedFor : ClusterEvent → List KeptGroup → List KeptGroup �
 IsPreparedFor event olds news =
     (h : ℕ) → KeepsOn IsSameGroup (kept_in olds h) (kept_in news h) ⊎ IsBegunFor event h (kept_in olds h) (kept_in news h)
 
--- each group has room that the event may bring something to: of an opening each that is kept, else the event's, which is
-pub record IsReadyFor (event : ClusterEvent) (groups : List KeptGroup) : Type 0 where
-  pub own : (h : ℕ) → group_of event ≡ Some h → (kept : KeptGroup) × (kept_in groups h ≡ Some kept) × IsReady kept
-  pub each : IsOpening event → (h : ℕ) (kept : KeptGroup) → kept_in groups h ≡ Some kept → IsReady kept
+-- each group has room for so many events that this one may bring something to: of an opening each that is kept, else the event's
+-- own, which is kept
+pub record IsReadyFor (event : ClusterEvent) (n : ℕ) (groups : List KeptGroup) : Type 0 where
+  pub own : (h : ℕ) → group_of event ≡ Some h → (kept : KeptGroup) × (kept_in groups h ≡ Some kept) × IsReady kept n
+  pub each : IsOpening event → (h : ℕ) (kept : KeptGroup) → kept_in groups h ≡ Some kept → IsReady kept n
+
+-- what was ready for an event stays so
+abbrev pub KeepReady : ℕ → ℕ → List KeptGroup → List KeptGroup → Type 0
+KeepReady before n olds news = (other : ClusterEvent) → IsReadyFor other before olds → IsReadyFor other n news
 
 -- this is what the event brings to its group, which its node leads with this
 abbrev pub BringsTo : List KeptGroup → Option Leading → ClusterEvent → Brought → Type 0

@@ -1,5 +1,5 @@
 -- What is kept of a group, and room for it.
-use Rattle.std.specs.Prelude.{◌≡◌, ◌==◌, ℕ, List, Option, option_map}
+use Rattle.std.specs.Prelude.{◌≡◌, ◌==◌, ◌+◌, ℕ, suc, List, Option, option_map}
 use Rattle.std.specs.List.{find, position}
 use Rattle.raft_group_step.specs.Values.{EntryPayload}
 use Rattle.raft_group_lists.specs.Notes.{Notes, accounts_of}
@@ -20,7 +20,11 @@ first_at stopped node = position (λ (x : StoppedCall). x.node == node) stopped
 abbrev pub stopped_at : List StoppedCall → ℕ → Option EntryPayload
 stopped_at stopped node = option_map (λ (x : StoppedCall). x.payload) (find (λ (x : StoppedCall). x.node == node) stopped)
 
--- for one event: for its list, and for what its call writes if it stops
-pub record IsReady (kept : KeptGroup) : Type 0 where
-  pub list : HasRoom kept.list 2 2
-  pub stopped : HasSpace kept.stopped 1
+-- for so many events: for its list, and for what their calls write if they stop
+pub record IsReady (kept : KeptGroup) (n : ℕ) : Type 0 where
+  pub list : HasRoom kept.list (n + n) (n + n)
+  pub stopped : HasSpace kept.stopped n
+
+-- an event takes room for one
+abbrev pub TakesOne : KeptGroup → KeptGroup → Type 0
+TakesOne old new = (n : ℕ) → IsReady old (suc n) → IsReady new n

@@ -6,7 +6,7 @@ use Rattle.raft_cluster_events.specs.declared.event.ClusterEvent.{ClusterEvent}
 use Rattle.raft_cluster_lists.specs.declared.brought.Brought.{Brought}
 use Rattle.raft_cluster_lists.specs.declared.kept.KeptGroup.{KeptGroup}
 use Rattle.raft_cluster_lists.specs.Brought.{Brings}
-use Rattle.raft_cluster_lists.specs.Groups.{kept_in}
+use Rattle.raft_cluster_lists.specs.Groups.{IsSameGroup, kept_in}
 use Rattle.raft_cluster_lists.specs.Lists.{IsReady}
 
 -- the group stands there
@@ -20,8 +20,13 @@ pub record ArePlaces (places : ℕ → Option ℕ) (groups : List KeptGroup) : T
   pub there : (h at : ℕ) → places h ≡ Some at → IsKeptAt groups h at
   pub known : (h at : ℕ) → IsKeptAt groups h at → places h ≡ Some at
 
-abbrev pub AreReady : List KeptGroup → Type 0
-AreReady groups = (at : ℕ) (kept : KeptGroup) → slice_get groups at ≡ Some kept → IsReady kept
+abbrev pub AreReady : List KeptGroup → ℕ → Type 0
+AreReady groups n = (at : ℕ) (kept : KeptGroup) → slice_get groups at ≡ Some kept → IsReady kept n
+
+-- the same is kept, and no room is lost
+pub record IsNoLess (old new : KeptGroup) : Type 0 where
+  pub same : IsSameGroup old new
+  pub room : (n : ℕ) → IsReady old n → IsReady new n
 
 -- the same group stands there, and goes on so
 pub record GoesOnAt (goes : ℕ → KeptGroup → KeptGroup → Type 0) (news : List KeptGroup) (at : ℕ) (old : KeptGroup) : Type 0 where
@@ -52,9 +57,9 @@ pub record GoesOnAlone (goes : ℕ → KeptGroup → KeptGroup → Type 0) (at :
   pub own : (old : KeptGroup) → slice_get olds at ≡ Some old → GoesOnAt goes news at old
   pub others : (other : ℕ) → (other ≡ at → ⊥) → slice_get news other ≡ slice_get olds other
 
--- what stands there has room, and the event brings this to it
-pub record IsPreparedAt (groups : List KeptGroup) (at : ℕ) (leading : Option Leading) (event : ClusterEvent) (brought : Brought) : Type 0 where
+-- what stands there has room for so many events, and this one brings this to it
+pub record IsPreparedAt (groups : List KeptGroup) (at : ℕ) (leading : Option Leading) (event : ClusterEvent) (n : ℕ) (brought : Brought) : Type 0 where
   pub kept : KeptGroup
   pub there : slice_get groups at ≡ Some kept
-  pub ready : IsReady kept
+  pub ready : IsReady kept n
   pub brings : Brings kept.list.notes leading event brought

@@ -1,10 +1,10 @@
 //! What is kept of one group.
-ghost use Rattle.std.specs.Prelude.{◌≡◌, ◌<◌, ◌==◌, ℕ, [], Some, None, length, if◌then◌else◌, IfSome, OnOk};
+ghost use Rattle.std.specs.Prelude.{◌≡◌, ◌<◌, ◌==◌, ℕ, suc, [], Some, None, length, if◌then◌else◌, IfSome, OnOk};
 ghost use Rattle.std.specs.Option.{option_or};
 ghost use Rattle.raft_group_lists.specs.Notes.{no_notes};
 ghost use Rattle.raft_group_lists.specs.Room.{HasSpace};
 ghost use Rattle.raft_cluster_lists.specs.Hearing.{HearsOf, IsCallHeard, IsFirst, IsOpeningHeard, unless_failed};
-ghost use Rattle.raft_cluster_lists.specs.Lists.{AreSame, IsReady, first_at, stopped_at};
+ghost use Rattle.raft_cluster_lists.specs.Lists.{AreSame, IsReady, TakesOne, first_at, stopped_at};
 
 use crate::brought::Brought;
 use raft_cluster_events::{Acceptance, EventOutcome, Leading, NodeRefusal};
@@ -49,6 +49,7 @@ fn keep_stopped(
 )
     requires { HasSpace stopped.old 1 }
     ensures kept { stopped_at stopped.new.items node ≡ Some payload }
+    ensures room { (n : ℕ) → HasSpace stopped.old (suc n) → HasSpace stopped.new n }
     ensures others { (other : ℕ) → (other ≡ node → ⊥) → stopped_at stopped.new.items other ≡ stopped_at stopped.old.items other }
 {
     match place_of(stopped.as_slice(), node) {
@@ -63,6 +64,7 @@ fn take_stopped(
     node: u64,
 ) -> Option<EntryPayload<u64, BasicNode, Bytes>>
     ensures taken { result ≡ stopped_at stopped.old.items node }
+    ensures room { (n : ℕ) → HasSpace stopped.old n → HasSpace stopped.new n }
     ensures others { (other : ℕ) → (other ≡ node → ⊥) → stopped_at stopped.new.items other ≡ stopped_at stopped.old.items other }
 {
     match place_of(stopped.as_slice(), node) {
@@ -133,15 +135,20 @@ impl KeptGroup {
         }
     }
 
-    /// Finds memory for one event of the group. An `Err` is want of memory. Whatever the result, the same is noted.
-    pub fn make_room(&mut self) -> Result<(), AllocError>
-        ensures ok { OnOk result (IsReady self.new) }
+    /// Finds memory for so many events of the group. An `Err` is want of memory. Whatever the result, the same is noted, and no
+    /// room is lost.
+    pub fn make_room(&mut self, events: usize) -> Result<(), AllocError>
+        ensures ok { OnOk result (IsReady self.new events) }
+        ensures keeps { (n : ℕ) → IsReady self.old n → IsReady self.new n }
         ensures group { self.new.group ≡ self.old.group }
         ensures same { AreSame self.old.list.notes self.new.list.notes }
         ensures stopped { self.new.stopped.items ≡ self.old.stopped.items }
     {
-        self.list.make_room()?;
-        self.stopped.reserve(1)?;
+        let Some(count) = events.checked_add(events) else {
+            return Err(AllocError);
+        };
+        self.list.make_room(count)?;
+        self.stopped.reserve(events)?;
         Ok(())
     }
 
@@ -155,9 +162,10 @@ impl KeptGroup {
         accepted: Option<Acceptance>,
         brought: Brought,
     )
-        requires { IsReady self.old }
+        requires { IsReady self.old 1 }
         ensures group { self.new.group ≡ self.old.group }
         ensures heard { IsCallHeard node leading outcome.now accepted brought self.old self.new }
+        ensures room { TakesOne self.old self.new }
     {
         let Brought { set_up, written } = brought;
         let set_up = first_of(&self.list, set_up);
@@ -188,11 +196,12 @@ impl KeptGroup {
         set_up: Option<SetUp>,
         written: Option<EntryPayload<u64, BasicNode, Bytes>>,
     )
-        requires { IsReady self.old }
+        requires { IsReady self.old 1 }
         ensures group { self.new.group ≡ self.old.group }
         ensures list { HearsOf (Some (record { node = node; set_up = set_up; leading = None; written = None; accepted = None })) self.old.list.notes self.new.list.notes }
         ensures stopped { (other : ℕ) → stopped_at self.new.stopped.items other
             ≡ (if other == node then option_or written (stopped_at self.old.stopped.items other) else stopped_at self.old.stopped.items other) }
+        ensures room { TakesOne self.old self.new }
     {
         let report = GroupReport {
             node,
@@ -210,9 +219,10 @@ impl KeptGroup {
     /// The list goes on with an opening of the node, which leads the group with this behind it: it may do so with what its last
     /// call wrote, which stopped. Nothing is heard of an opening that wasn't done.
     pub fn hear_opening(&mut self, node: u64, leading: Option<Leading>, outcome: &EventOutcome)
-        requires { IsReady self.old }
+        requires { IsReady self.old 1 }
         ensures group { self.new.group ≡ self.old.group }
         ensures heard { IsOpeningHeard node leading outcome.now self.old self.new }
+        ensures room { TakesOne self.old self.new }
     {
         if let EventOutcome::Done(_) = outcome {
             let written = take_stopped(&mut self.stopped, node);

@@ -1,7 +1,7 @@
 //! What a cluster keeps of all its groups.
-ghost use Rattle.std.specs.Prelude.{◌≡◌, ◌↔◌, [], length, slice_get, IfOk, IsTrue, OnOk};
+ghost use Rattle.std.specs.Prelude.{◌≡◌, ◌↔◌, ℕ, suc, [], length, slice_get, IfOk, IsTrue, OnOk};
 ghost use Rattle.std.specs.Option.{option_copied};
-ghost use Rattle.raft_cluster_lists.specs.Groups.{BringsTo, IsHeard, IsPreparedFor, IsReadyFor, entries_of, kept_in};
+ghost use Rattle.raft_cluster_lists.specs.Groups.{BringsTo, IsHeard, IsPreparedFor, IsReadyFor, KeepReady, entries_of, kept_in};
 
 use crate::brought::{Brought, group_of, is_opening, nothing};
 use crate::each::{Places, hear_at, hear_openings, make_room_in, prepare_group};
@@ -90,16 +90,18 @@ impl ClusterLists {
         }
     }
 
-    /// Before an event: finds memory for what it may bring to groups, and copies what it brings to its own one, which its node
-    /// leads with this. From now on that is kept. An `Err` is want of memory: the same is kept, and maybe the event's group, with
-    /// nothing noted of it.
+    /// Before an event, which is one of so many that come at once: finds memory for what it may bring to groups, and copies what it
+    /// brings to its own one, which its node leads with this. From now on that is kept. What was prepared for as many stays so. An
+    /// `Err` is want of memory: the same is kept, and maybe the event's group, with nothing noted of it.
     pub fn prepare(
         &mut self,
         leading: &Option<Leading>,
         event: &ClusterEvent,
+        events: usize,
     ) -> Result<Brought, AllocError>
         ensures groups { IsPreparedFor event.now self.old self.new }
-        ensures ready { OnOk result (IsReadyFor event.now self.new) }
+        ensures ready { OnOk result (IsReadyFor event.now events self.new) }
+        ensures keep { OnOk result (KeepReady events events self.old self.new) }
         ensures brings { IfOk result (BringsTo self.new leading.now event.now) }
     {
         match group_of(event) {
@@ -110,9 +112,10 @@ impl ClusterLists {
                 group,
                 leading,
                 event,
+                events,
             ),
             None if is_opening(event) => {
-                make_room_in(self.groups.as_mut_slice())?;
+                make_room_in(self.groups.as_mut_slice(), events)?;
                 Ok(nothing())
             }
             None => Ok(nothing()),
@@ -120,7 +123,7 @@ impl ClusterLists {
     }
 
     /// Behind an event that came to this node: its group's list goes on with it, or with an opening each group's, by what the node
-    /// leads them with now. It was prepared, so it can't fail.
+    /// leads them with now. It was prepared, so it can't fail; what was prepared for more events stays so for one less.
     pub fn hear_event<N: ClusterNode>(
         &mut self,
         node: &N,
@@ -129,8 +132,9 @@ impl ClusterLists {
         accepted: Option<Acceptance>,
         brought: Brought,
     )
-        requires { IsReadyFor event.now self.old }
-        ensures { IsHeard (N.acts.id node.now) (N.acts.leads node.now) event.now outcome.now accepted brought self.old self.new }
+        requires { IsReadyFor event.now 1 self.old }
+        ensures room { (n : ℕ) → KeepReady (suc n) n self.old self.new }
+        ensures heard { IsHeard (N.acts.id node.now) (N.acts.leads node.now) event.now outcome.now accepted brought self.old self.new }
     {
         match group_of(event) {
             Some(group) => {

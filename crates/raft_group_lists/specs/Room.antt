@@ -14,31 +14,27 @@ HasSpace v n = vec_len v + n ≤ vec_capacity v
 abbrev pub EachHasSpace : List Lead → ℕ → Type 0
 EachHasSpace leads n = (i : ℕ) (lead : Lead) → slice_get leads i ≡ Some lead → HasSpace lead.reached n
 
--- for how many nodes a new vote has room
-abbrev pub spare_size : ℕ
-spare_size = 2
-
--- kept for new votes: nothing in it, and room for so many nodes
-pub record IsSpare (v : Vec Reached Global) : Type 0 where
-  pub empty : v.items ≡ []
-  pub size : spare_size ≤ vec_capacity v
-
+-- kept for new votes: nothing is in them
 abbrev pub AreSpares : List (Vec Reached Global) → Type 0
-AreSpares spares = (i : ℕ) (v : Vec Reached Global) → slice_get spares i ≡ Some v → IsSpare v
+AreSpares spares = (i : ℕ) (v : Vec Reached Global) → slice_get spares i ≡ Some v → v.items ≡ []
+
+-- so many nodes fit in each of them
+abbrev pub EachHolds : List (Vec Reached Global) → ℕ → Type 0
+EachHolds spares n = (i : ℕ) (v : Vec Reached Global) → slice_get spares i ≡ Some v → n ≤ vec_capacity v
 
 -- so many times more, what a node accepted under a vote fits, also where both are new
-pub record CanLearn (leads : List Lead) (capacity spares n : ℕ) : Type 0 where
+pub record CanLearn (leads : List Lead) (capacity : ℕ) (spares : List (Vec Reached Global)) (n : ℕ) : Type 0 where
   pub votes : length leads + n ≤ capacity
   pub nodes : EachHasSpace leads n
-  pub spares_left : n ≤ spares
-  pub small : n ≤ spare_size
+  pub spares_left : n ≤ length spares
+  pub spare_nodes : EachHolds spares n
 
 -- once the vote has its place: so many votes more fit, and under each vote one node more than that
-pub record HasPlace (leads : List Lead) (capacity spares n : ℕ) : Type 0 where
+pub record HasPlace (leads : List Lead) (capacity : ℕ) (spares : List (Vec Reached Global)) (n : ℕ) : Type 0 where
   pub votes : length leads + n ≤ capacity
   pub nodes : EachHasSpace leads (suc n)
-  pub spares_left : n ≤ spares
-  pub small : suc n ≤ spare_size
+  pub spares_left : n ≤ length spares
+  pub spare_nodes : EachHolds spares n
 
 -- the same is noted, and no less fits
 pub record AreWider (some other : List Lead) : Type 0 where
@@ -48,12 +44,12 @@ pub record AreWider (some other : List Lead) : Type 0 where
       → (i : ℕ) (lead : Lead) → slice_get other i ≡ Some lead → IsWithin noted lead.last
   pub space : (n : ℕ) → EachHasSpace some n → EachHasSpace other n
 
--- how many entries, places of the list, and votes fit in all, and how many vectors are kept for new votes
+-- how many entries, places of the list, and votes fit in all, and the vectors that are kept for new votes
 pub record Capacities : Type 0 where
   pub noted : ℕ
   pub listed : ℕ
   pub leads : ℕ
-  pub spares : ℕ
+  pub spares : List (Vec Reached Global)
 
 -- what is noted, and what fits
 pub record Kept : Type 0 where
@@ -64,7 +60,7 @@ abbrev pub kept_of : List (List ℕ) → Vec Noted Global → Vec Lead Global �
 kept_of voters noted leads listed spares =
     record {
       notes = notes_of voters noted.items leads.items listed.items;
-      fits = record { noted = vec_capacity noted; listed = vec_capacity listed; leads = vec_capacity leads; spares = length spares.items };
+      fits = record { noted = vec_capacity noted; listed = vec_capacity listed; leads = vec_capacity leads; spares = spares.items };
     }
 
 -- so many entries more can be written, and so many notes and acceptances taken

@@ -82,20 +82,21 @@ impl GroupList {
         self.voters = voters;
     }
 
-    /// Finds memory for one event: behind an `Ok` two entries can be written, and one note and one acceptance taken, also where
-    /// both are under new votes. An `Err` is want of memory. Whatever the result, the same is noted, and no room is lost.
-    pub fn make_room(&mut self) -> Result<(), AllocError>
-        ensures ok { OnOk result (HasRoom self.new 2 2) }
+    /// Finds memory: behind an `Ok` so many entries can be written, and so many notes and acceptances taken, also where all of them
+    /// are under new votes. One event asks for two of each. An `Err` is want of memory. Whatever the result, the same is noted, and
+    /// no room is lost.
+    pub fn make_room(&mut self, count: usize) -> Result<(), AllocError>
+        ensures ok { OnOk result (HasRoom self.new count count) }
         ensures accounts { accounts_of self.new.notes ≡ accounts_of self.old.notes }
         ensures noted { self.new.notes.noted ≡ self.old.notes.noted }
         ensures keeps { (writes learns : ℕ) → HasRoom self.old writes learns → HasRoom self.new writes learns }
     {
-        self.noted.reserve(2)?;
-        let all = self.noted.len() + 2;
+        self.noted.reserve(count)?;
+        let all = self.noted.len() + count;
         self.listed.reserve(all.saturating_sub(self.listed.len()))?;
-        self.leads.reserve(2)?;
-        make_spares(self.alloc, &mut self.spares)?;
-        widen(self.leads.as_mut_slice())?;
+        self.leads.reserve(count)?;
+        make_spares(self.alloc, &mut self.spares, count)?;
+        widen(self.leads.as_mut_slice(), count)?;
         Ok(())
     }
 

@@ -2,7 +2,7 @@
 ghost use Rattle.std.specs.Prelude.{◌≡◌, ◌≤◌, ◌||◌, ◌&&◌, ◌==◌, ◌⊎◌, ℕ, suc, [], None, Some, length, slice_get, vec_capacity, IfOk, IsOk, MatchOption};
 ghost use Rattle.raft_group_lists.specs.declared.notes.Lead.{Lead as NotedLead};
 ghost use Rattle.raft_group_lists.specs.Notes.{IsLeadAt, IsSpot, SameLead, SameLeads, has_reached, last_in, lead_in, reaches};
-ghost use Rattle.raft_group_lists.specs.Room.{AreSpares, CanLearn, HasPlace, HasSpace, IsSpare};
+ghost use Rattle.raft_group_lists.specs.Room.{AreSpares, CanLearn, EachHolds, HasPlace, HasSpace};
 
 use crate::notes::{Lead, Reached};
 use raft_state::Vote;
@@ -37,7 +37,8 @@ fn spare_or_new(alloc: Global, spares: &mut Vec<Vec<Reached>>) -> Vec<Reached>
     requires { AreSpares spares.old.items }
     ensures empty { result.items ≡ [] }
     ensures spares { AreSpares spares.new.items }
-    ensures left { (n : ℕ) → suc n ≤ length spares.old.items → IsSpare result × (n ≤ length spares.new.items) }
+    ensures left { (n size : ℕ) → suc n ≤ length spares.old.items → EachHolds spares.old.items size
+        → (size ≤ vec_capacity result) × (n ≤ length spares.new.items) × EachHolds spares.new.items size }
 {
     match spares.pop() {
         Some(spare) => spare,
@@ -57,8 +58,8 @@ pub(crate) fn lead_at(
     ensures same { SameLeads leads.old.items leads.new.items }
     ensures lasts { (i : ℕ) (lead : NotedLead) → slice_get leads.new.items i ≡ Some lead → (slice_get leads.old.items i ≡ Some lead) ⊎ (lead.last ≡ None) }
     ensures spares { AreSpares spares.new.items }
-    ensures room { (n : ℕ) → CanLearn leads.old.items (vec_capacity leads.old) (length spares.old.items) (suc n)
-        → IsOk result × HasPlace leads.new.items (vec_capacity leads.new) (length spares.new.items) n }
+    ensures room { (n : ℕ) → CanLearn leads.old.items (vec_capacity leads.old) spares.old.items (suc n)
+        → IsOk result × HasPlace leads.new.items (vec_capacity leads.new) spares.new.items n }
 {
     match find_lead(leads.as_slice(), vote) {
         Some(at) => Ok(at),

@@ -117,8 +117,8 @@ pub(crate) fn learn_under(
     ensures err { OnErr result (SameLeads leads.old.items leads.new.items × (listed.new.items ≡ listed.old.items)) }
     ensures spares { AreSpares spares.new.items }
     ensures capacity { vec_capacity listed.old ≤ vec_capacity listed.new }
-    ensures room { (n : ℕ) → length noted.now ≤ vec_capacity listed.old → CanLearn leads.old.items (vec_capacity leads.old) (length spares.old.items) (suc n)
-        → IsOk result × CanLearn leads.new.items (vec_capacity leads.new) (length spares.new.items) n }
+    ensures room { (n : ℕ) → length noted.now ≤ vec_capacity listed.old → CanLearn leads.old.items (vec_capacity leads.old) spares.old.items (suc n)
+        → IsOk result × CanLearn leads.new.items (vec_capacity leads.new) spares.new.items n }
 {
     let at = lead_at(alloc, spares, leads, vote)?;
     let lead = &mut leads[at];

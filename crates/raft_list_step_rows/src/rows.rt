@@ -1,23 +1,53 @@
 //! Reports, and the list behind them.
 
+use crate::clusters::Cluster;
 use crate::words::report;
 use raft_group_lists::GroupList;
 use raft_list_steps::hear;
 use raft_rows::{Answer, Rows};
-use raft_state::EntryPayload;
+use raft_state::{BasicNode, Bytes, Entry, EntryPayload};
 use std::alloc::{AllocError, Global};
 use std::fmt::Write;
 
-/// The list that rows speak of.
+/// The list that rows speak of, and the cluster.
 #[derive(Drop)]
 pub struct Reports {
     list: GroupList,
+    cluster: Cluster,
+}
+
+/// The entry by its log id, with what it asks for.
+pub fn entry_text(
+    alloc: Global,
+    entry: &Entry<u64, BasicNode, Bytes>,
+) -> Result<String, AllocError> {
+    let id = &entry.log_id;
+    let leader = &id.leader_id;
+    match &entry.payload {
+        EntryPayload::Blank => {
+            format!(in alloc; "{}-{}-{}:blank", leader.term, leader.node_id, id.index)
+        }
+        EntryPayload::Normal(command) => format!(in alloc;
+            "{}-{}-{}:{}",
+            leader.term,
+            leader.node_id,
+            id.index,
+            command.len()
+        ),
+        EntryPayload::Membership(_) => {
+            format!(in alloc;
+                "{}-{}-{}:membership",
+                leader.term, leader.node_id, id.index
+            )
+        }
+    }
 }
 
 impl Reports {
     pub fn new(alloc: Global) -> Reports {
         Reports {
             list: GroupList::new(alloc),
+            cluster: Cluster::new(alloc),
         }
     }
 
@@ -28,36 +58,30 @@ impl Reports {
             let Some(entry) = self.list.get(place) else {
                 break;
             };
-            let id = &entry.log_id;
-            let leader = &id.leader_id;
-            let before = if place == 0 { "" } else { " " };
-            let part = match &entry.payload {
-                EntryPayload::Blank => format!(in alloc;
-                    "{before}{}-{}-{}:blank",
-                    leader.term, leader.node_id, id.index
-                )?,
-                EntryPayload::Normal(command) => format!(in alloc;
-                    "{before}{}-{}-{}:{}",
-                    leader.term,
-                    leader.node_id,
-                    id.index,
-                    command.len()
-                )?,
-                EntryPayload::Membership(_) => format!(in alloc;
-                    "{before}{}-{}-{}:membership",
-                    leader.term, leader.node_id, id.index
-                )?,
-            };
-            text.push_str(part.as_str())?;
+            text.push_str(if place == 0 { "" } else { " " })?;
+            text.push_str(entry_text(alloc, entry)?.as_str())?;
         }
         Ok(text)
     }
 
     fn told(&mut self, alloc: Global, words: &[&str]) -> Result<String, AllocError> {
         let report = report(alloc, words)?;
-        self.list.make_room()?;
+        self.list.make_room(2)?;
         hear(&mut self.list, report);
         self.shown(alloc)
+    }
+
+    // What is answered to a row of an event of a cluster, or to a report.
+    fn heard(&mut self, alloc: Global, words: &[&str]) -> Result<String, AllocError> {
+        match words {
+            ["in", group, outcome, rest @ ..] => {
+                self.cluster.heard(alloc, *group, *outcome, rest, false)
+            }
+            ["opens", group, outcome, rest @ ..] => {
+                self.cluster.heard(alloc, *group, *outcome, rest, true)
+            }
+            _ => self.told(alloc, words),
+        }
     }
 }
 
@@ -65,9 +89,10 @@ impl Rows for Reports {
     fn answer(&mut self, alloc: Global, words: &[&str]) -> Option<Answer> {
         if words == ["new"].as_slice() {
             self.list = GroupList::new(alloc);
+            self.cluster = Cluster::new(alloc);
             return Some(Answer::Word("empty"));
         }
-        Some(match self.told(alloc, words) {
+        Some(match self.heard(alloc, words) {
             Ok(text) if text.is_empty() => Answer::Word("empty"),
             Ok(text) => Answer::Text(text),
             Err(_) => Answer::NoMemory,

@@ -7,3 +7,4 @@ pub mod MessageLemmas
 pub mod EventLemmas
 pub mod RunLemmas
 pub mod OnceLemmas
+pub mod RoomLemmas

@@ -16,7 +16,7 @@ pub fn list_behind(alloc: Global, reports: Vec<GroupReport>) -> Result<GroupList
 {
     let mut list = GroupList::new(alloc);
     for report in reports {
-        list.make_room()?;
+        list.make_room(2)?;
         hear(&mut list, report);
     }
     Ok(list)

@@ -1,5 +1,5 @@
 //! The list of a group behind an event.
-ghost use Rattle.std.specs.Prelude.{Some};
+ghost use Rattle.std.specs.Prelude.{ℕ, suc, Some};
 ghost use Rattle.raft_group_lists.specs.Room.{HasRoom};
 ghost use Rattle.raft_list_steps.specs.Reports.{Hears, HearsAhead, HearsSetUp};
 ghost use Rattle.raft_list_steps.specs.Steps.{Accepts, Leads, MayLead, SetsUp};
@@ -14,7 +14,7 @@ use raft_state::{BasicNode, Bytes, Entry, EntryPayload, LeaderId, LogId};
 fn hear_first(list: &mut GroupList, set_up: SetUp)
     requires { HasRoom list.old 2 2 }
     ensures truth { SetsUp list.old.notes (Some set_up) list.new.notes }
-    ensures room { HasRoom list.new 1 2 }
+    ensures room { (writes learns : ℕ) → HasRoom list.old (suc writes) learns → HasRoom list.new writes learns }
 {
     let entry = Entry {
         log_id: LogId {
@@ -36,7 +36,7 @@ fn hear_first(list: &mut GroupList, set_up: SetUp)
 fn hear_set_up(list: &mut GroupList, set_up: Option<SetUp>)
     requires { HasRoom list.old 2 2 }
     ensures truth { SetsUp list.old.notes set_up list.new.notes }
-    ensures room { HasRoom list.new 1 2 }
+    ensures room { (writes learns : ℕ) → HasRoom list.old (suc writes) learns → HasRoom list.new writes learns }
 {
     if let Some(set_up) = set_up {
         hear_first(list, set_up);
@@ -52,7 +52,7 @@ fn hear_leader(
 )
     requires { HasRoom list.old 1 2 }
     ensures truth { Leads list.old.notes node leading written list.new.notes }
-    ensures room { HasRoom list.new 0 1 }
+    ensures room { (writes learns : ℕ) → HasRoom list.old (suc writes) (suc learns) → HasRoom list.new writes learns }
 {
     let Some(last) = leading.last else {
         return;
@@ -73,7 +73,7 @@ fn hear_lead(
 )
     requires { HasRoom list.old 1 2 }
     ensures truth { MayLead list.old.notes node leading written list.new.notes }
-    ensures room { HasRoom list.new 0 1 }
+    ensures room { (writes learns : ℕ) → HasRoom list.old (suc writes) (suc learns) → HasRoom list.new writes learns }
 {
     if let Some(leading) = leading {
         hear_leader(list, node, leading, written);
@@ -83,7 +83,8 @@ fn hear_lead(
 // What the node's message accepts is noted.
 fn hear_acceptance(list: &mut GroupList, node: u64, accepted: Option<Acceptance>)
     requires { HasRoom list.old 0 1 }
-    ensures { Accepts list.old.notes node accepted list.new.notes }
+    ensures truth { Accepts list.old.notes node accepted list.new.notes }
+    ensures room { (writes learns : ℕ) → HasRoom list.old writes (suc learns) → HasRoom list.new writes learns }
 {
     match accepted {
         Some(accepted) => match list.accept(node, accepted.vote, accepted.last) {
@@ -94,12 +95,14 @@ fn hear_acceptance(list: &mut GroupList, node: u64, accepted: Option<Acceptance>
     }
 }
 
-/// The list goes on with what is heard of one event. Room was found before it, so it can't fail.
+/// The list goes on with what is heard of one event. Room was found before it, so it can't fail; it takes two of each kind of that
+/// at most.
 pub fn hear(list: &mut GroupList, report: GroupReport)
     requires { HasRoom list.old 2 2 }
     ensures hears { Hears list.old.notes report list.new.notes }
     ensures ahead { HearsAhead list.old.notes report list.new.notes }
     ensures set_up { HearsSetUp list.old.notes report list.new.notes }
+    ensures room { (writes learns : ℕ) → HasRoom list.old (suc (suc writes)) (suc (suc learns)) → HasRoom list.new writes learns }
 {
     let GroupReport {
         node,

@@ -1,5 +1,5 @@
 //! Where a leader's list goes on from, and where it ends.
-ghost use Rattle.std.specs.Prelude.{◌≡◌, ◌<◌, Some, length, MatchOption};
+ghost use Rattle.std.specs.Prelude.{◌≡◌, ◌<◌, ℕ, suc, Some, length, MatchOption};
 ghost use Rattle.raft_group_lists.specs.Notes.{IsWithin, accounts_of};
 ghost use Rattle.raft_group_lists.specs.Room.{HasRoom};
 ghost use Rattle.raft_list_steps.specs.Reports.{new_payload};
@@ -66,7 +66,7 @@ pub(crate) fn end_of(
     requires last { leading.now.last ≡ Some last }
     ensures ends { EndsAt list.old.notes leading.now last written result list.new.notes }
     ensures within { result < length list.new.notes.noted }
-    ensures room { HasRoom list.new 0 2 }
+    ensures room { (writes learns : ℕ) → HasRoom list.old (suc writes) learns → HasRoom list.new writes learns }
 {
     let start = start_of(list, leading);
     if let Some(at) = ended_at(list, &last, start) {

@@ -2,6 +2,7 @@
 use Rattle.std.proofs.Common.{◌≡◌, ℕ, cond, List, [], ◌∷◌, ◌++◌, Option, Some, None, drop, length, refl, sym, ap, ◌∙◌, subst}
 use Rattle.std.proofs.lemmas.Bool.{eq-eqb}
 use Rattle.std.specs.List.{AllZip}
+use Rattle.raft_values.specs.declared.vote.Vote.{Vote}
 use Rattle.raft_group_step.specs.Message.{Message}
 use Rattle.raft_group_step.specs.Values.{Membership}
 use Rattle.raft_laws.specs.BallotLists.{AgreeBelow, with_value}
@@ -42,6 +43,7 @@ use Rattle.raft_cluster.proofs.PlainLemmas.{first_set_up, sent_more}
 use Rattle.raft_listed_cluster.specs.Keeping.{noted_with, notes_of}
 use Rattle.raft_listed_cluster.proofs.FrameFacts.{news_accept}
 use Rattle.raft_listed_cluster.proofs.HappeningFacts.{IsAway, IsNodeOf}
+use Rattle.raft_listed_cluster.proofs.LatestFacts.{latest_in, latest_stays}
 use Rattle.raft_listed_cluster.proofs.SetUpFacts.{asked_still, asked_then, same_asked}
 
 -- what an event of the group says, where it was done
@@ -84,10 +86,11 @@ module _ {N : Type 0} (rules : MachineRules) (acts : NodeActs N) (states : NodeS
     abbrev GoesThere : ℕ → Option GroupNotes → Option GroupNotes → Type 0
     GoesThere h kept next = GoesOn rules ids h plain more.one node (olds h) (more.news h) kept next
 
-    -- what is kept of a group behind the event, and that its list grew
+    -- what is kept of a group behind the event, that its list grew, and that what is noted of other leaders stays
     pub record IsKeptOn (h : ℕ) (kept next : Option GroupNotes) : Type 0 where
       pub keeps : KeptBehind h next
       pub grows : AgreeBelow (length (list_in kept)) (list_in kept) (list_in next)
+      pub latest : (vote : Vote ℕ) → (vote.leader_id.node_id ≡ node → ⊥) → latest_in next vote ≡ latest_in kept vote
 
     kept_on : (h : ℕ) (kept next : Option GroupNotes) → KeptBefore h kept → GoesThere h kept next → IsKeptOn h kept next
     kept_on h kept next keeps goes =
@@ -98,6 +101,7 @@ module _ {N : Type 0} (rules : MachineRules) (acts : NodeActs N) (states : NodeS
               subst P (sym (more.candidates h))
               (subst Q (sym more.plain) (events_keep_lists rules ids fit h (t.told.stand.candidates h) plain kept next keeps more.one node (more.news h) (more.leads h) goes));
           grows = lists_grow rules ids fit h (t.told.stand.candidates h) plain kept next keeps more.one node (more.news h) (more.leads h) goes;
+          latest = latest_stays rules ids fit h (t.told.stand.candidates h) plain kept next keeps more.one node (more.news h) (more.leads h) goes;
         }
 
     -- ---- who leads

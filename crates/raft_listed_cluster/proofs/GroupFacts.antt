@@ -22,11 +22,11 @@ same_list (Some k) asked = refl
 
 -- ---- the same
 
-same_entries : (old new : Option KeptGroup) → KeepsOn IsSameGroup old new → entries_of new ≡ entries_of old
+pub same_entries : (old new : Option KeptGroup) → KeepsOn IsSameGroup old new → entries_of new ≡ entries_of old
 same_entries None new same = ap entries_of same
 same_entries (Some k) new same = ap entries_of same.1 ∙ ap (λ a. a.list) same.2.notes.accounts
 
-begun_entries : (event : ClusterEvent) (h : ℕ) (old new : Option KeptGroup) → IsBegunFor event h old new → entries_of new ≡ entries_of old
+pub begun_entries : (event : ClusterEvent) (h : ℕ) (old new : Option KeptGroup) → IsBegunFor event h old new → entries_of new ≡ entries_of old
 begun_entries event h old new begun =
     ap entries_of begun.there ∙ ap (λ a. a.list) begun.is_new.notes.accounts ∙ sym (ap entries_of begun.none)
 

@@ -1,5 +1,6 @@
 -- What the type keeps from step to step, and what that gives.
 use Rattle.std.proofs.Common.{◌≡◌, ◌⊎◌, inl, inr, ℕ, List, [], ◌∷◌, ◌++◌, Option, Some, None, drop, length, sym, ap, ◌∙◌, subst}
+use Rattle.raft_values.specs.declared.vote.Vote.{Vote}
 use Rattle.raft_group_step.specs.Values.{Entry}
 use Rattle.raft_laws.specs.BallotLists.{AgreeBelow}
 use Rattle.raft_machines.specs.Machine.{MachineRules}
@@ -30,6 +31,7 @@ use Rattle.raft_listed_cluster.specs.Keeping.{KeepsLists, notes_of}
 use Rattle.raft_listed_cluster.specs.Listed.{HasLists, ListedValue, OnlyGrow, lists_of}
 use Rattle.raft_listed_cluster.proofs.GroupFacts.{prepared_lists, prepared_on, same_list}
 use Rattle.raft_listed_cluster.proofs.HappeningFacts.{IsAway, IsNodeOf, away_or_reaches, its_node, nodes_of, opening_taken}
+use Rattle.raft_listed_cluster.proofs.LatestFacts.{latest_in}
 use Rattle.raft_listed_cluster.proofs.ListFacts.{grow_on, same_grow}
 use Rattle.raft_listed_cluster.proofs.StepFacts.{IsOn, away_each, heard_away, heard_each, unheard}
 
@@ -74,7 +76,7 @@ module _ {N : Type 0} (rules : MachineRules) (acts : NodeActs N) (states : NodeS
 
     module _ (olds news : List KeptGroup) (id : Option ℕ) (named : id ≡ node_of sent e)
         (leading : Option Leading) (tells : Tells acts (node_at acts nodes id) (group_of e) leading)
-        (brought : Brought) (ready : IsReadyFor e olds) (brings : BringsTo olds leading e brought)
+        (brought : Brought) (ready : IsReadyFor e 1 olds) (brings : BringsTo olds leading e brought)
         (count : ℕ) (so_many : HasSent sent (group_of e) count) (hears : IsHeardOf acts nodes' later id (group_of e) count e o brought olds news)
         (keeps : KeepsLists rules acts states nodes sent history olds) where
       abbrev ids : List ℕ
@@ -138,6 +140,13 @@ module _ {N : Type 0} (rules : MachineRules) (acts : NodeActs N) (states : NodeS
           let Q : List Entry → Type 0 = λ l. AgreeBelow (length (list_in (notes_of (kept_in olds h) (first_set_up h history)))) (list_in (notes_of (kept_in olds h) (first_set_up h history))) l in
           subst P before (subst Q behind (each_on h).grows)
 
+      -- what is noted of the leaders at other nodes stays
+      pub step_latest : (n : ℕ) → node_of sent e ≡ Some n → (h : ℕ) (vote : Vote ℕ) → (vote.leader_id.node_id ≡ n → ⊥)
+          → latest_in (notes_of (kept_in news h) (first_set_up h (history ++ real ∷ []))) vote ≡ latest_in (notes_of (kept_in olds h) (first_set_up h history)) vote
+      step_latest n at h vote other =
+          let same = its_node states.spells sent keeps.so_far.told.plain keeps.so_far.told.stand.frames more.one.node n e at more.recorded.node in
+          (each_on h).latest vote (λ is. other (is ∙ same))
+
   -- ---- a step
 
   -- what is known of a step, and was heard of it
@@ -151,7 +160,7 @@ module _ {N : Type 0} (rules : MachineRules) (acts : NodeActs N) (states : NodeS
     pub olds : List KeptGroup
     pub prepared : IsPreparedFor e groups olds
     pub brought : Brought
-    pub ready : IsReadyFor e olds
+    pub ready : IsReadyFor e 1 olds
     pub brings : BringsTo olds leading e brought
     pub count : ℕ
     pub so_many : HasSent (frames_of old.sent) (group_of e) count

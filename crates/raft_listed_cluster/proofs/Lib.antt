@@ -7,3 +7,11 @@ pub mod EventFacts
 pub mod StepFacts
 pub mod BeginFacts
 pub mod KeepingFacts
+pub mod LatestFacts
+pub mod PreparedFacts
+pub mod LeftFacts
+pub mod RoundFacts
+pub mod NumberFacts
+pub mod RoundKeeping
+pub mod RoundHeard
+pub mod RoundRun

@@ -1,6 +1,6 @@
 -- Lists that go on, and what is the same of what is kept of a group.
-use Rattle.std.proofs.Common.{◌≡◌, ℕ, List, [], ◌∷◌, ◌++◌, Some, length, arith, sym, ap, ◌∙◌, subst, length-append}
-use Rattle.std.specs.Prelude.{◌-◌, Contains, slice_get}
+use Rattle.std.proofs.Common.{◌≡◌, ℕ, List, [], ◌∷◌, ◌++◌, Some, Result, Ok, Err, length, arith, sym, ap, ◌∙◌, subst, length-append}
+use Rattle.std.specs.Prelude.{◌-◌, Contains, OnErr, slice_get}
 use Rattle.raft_group_step.specs.Values.{Entry, Membership}
 use Rattle.raft_laws.specs.BallotLists.{AgreeBelow}
 use Rattle.raft_laws.proofs.BallotAgreement.{agree_more, agree_refl, same_some, slice_get_end}
@@ -11,6 +11,12 @@ use Rattle.raft_cluster_lists.specs.Keeping.{GroupNotes, KeepsList}
 use Rattle.raft_cluster_lists.specs.Lists.{AreSame}
 use Rattle.raft_cluster_lists.proofs.SameNotes.{same_notes}
 use Rattle.raft_listed_cluster.specs.Listed.{Lists, OnlyGrow}
+
+-- ---- results
+
+pub on_err : {T E : Type 0} (r : Result T E) (P : Type 0) → P → OnErr r P
+on_err (Ok x) P p = tt
+on_err (Err e) P p = p
 
 -- ---- lists
 

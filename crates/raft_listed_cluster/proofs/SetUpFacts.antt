@@ -3,11 +3,9 @@ use Rattle.std.proofs.Common.{◌≡◌, inl, ℕ, eqb, Bool, true, false, not, 
 use Rattle.std.proofs.lemmas.Bool.{eq-eqb}
 use Rattle.std.specs.Prelude.{Contains}
 use Rattle.std.specs.Option.{option_or}
-use Rattle.raft_group_step.specs.Values.{Membership, membership_eq}
+use Rattle.raft_group_step.specs.Values.{Membership}
 use Rattle.raft_group_step.specs.GroupEvent.{GroupCall}
 use Rattle.raft_laws.proofs.Counts.{among_contains, contains_among}
-use Rattle.raft_laws.proofs.SameMemberships.{same_membership as equal_memberships}
-use Rattle.raft_cluster_laws.proofs.Saying.{or_none}
 use Rattle.raft_cluster_events.specs.declared.event.ClusterEvent.{ClusterEvent}
 use Rattle.raft_cluster_events.specs.declared.event.ClusterEvent.TheVariants as event
 use Rattle.raft_cluster_events.specs.declared.outcome.EventOutcome.{EventOutcome}
@@ -16,17 +14,10 @@ use Rattle.raft_cluster_events.specs.declared.outcome.Recorded.{Recorded}
 use Rattle.raft_cluster_lists.specs.GoingOn.{IsTaken, asked_in}
 use Rattle.raft_cluster_lists.specs.Hearing.{group_of}
 use Rattle.raft_cluster.specs.Facts.{differs, differs_from, is_taken, membership_in, set_up_by, set_up_if}
-use Rattle.raft_cluster.proofs.PlainLemmas.{IsFreeSetUp, first_set_up, same_membership}
+use Rattle.raft_cluster.proofs.PlainLemmas.{IsFreeSetUp, first_more, first_set_up, same_as_first, same_membership}
 use Rattle.raft_listed_cluster.specs.Keeping.{one_of}
 
 -- ---- the first one
-
-same_as_first : (first m : Membership) → not (membership_eq first m) ≡ false → first ≡ m
-same_as_first first m e = equal_memberships first m (go (membership_eq first m) e)
-  where
-    go : (b : Bool) → not b ≡ false → b ≡ true
-    go true is = refl
-    go false is = absurd (cc)
 
 -- one that doesn't differ is the first
 first_is : (history : List Recorded) (h : ℕ) (m x : Membership) → differs history h m ≡ false → first_set_up h history ≡ Some x → m ≡ x
@@ -38,14 +29,6 @@ first_is (r ∷ rs) h m x free is = go (set_up_by h r) (first_is rs h m x) free 
     go None more free_there there = more free_there there
     go (Some first) more free_there there =
         let same : first ≡ x = cc in sym (same_as_first first m free_there) ∙ same
-
-or_more : (a b c : Option Membership) → option_or a (option_or b c) ≡ option_or (option_or a b) c
-or_more None b c = refl
-or_more (Some x) b c = refl
-
-first_more : (h : ℕ) (rs : List Recorded) (r : Recorded) → first_set_up h (rs ++ r ∷ []) ≡ option_or (first_set_up h rs) (set_up_by h r)
-first_more h [] r = or_none (set_up_by h r)
-first_more h (x ∷ xs) r = ap (option_or (set_up_by h x)) (first_more h xs r) ∙ or_more (set_up_by h x) (first_set_up h xs) (set_up_by h r)
 
 has_one : (o : Option Membership) (x : Membership) → Contains (one_of o) x → o ≡ Some x
 has_one None x has = absurd (contains_among [] x has)

@@ -9,7 +9,6 @@ use Rattle.raft_sent_frames.specs.Frames.{first_accepted}
 use Rattle.raft_list_facts.specs.declared.acceptance.Acceptance.{Acceptance}
 use Rattle.raft_list_facts.specs.declared.leading.Leading.{Leading}
 use Rattle.raft_cluster_events.specs.declared.event.ClusterEvent.{ClusterEvent}
-use Rattle.raft_cluster_events.specs.declared.event.ClusterEvent.TheVariants as event
 use Rattle.raft_cluster_events.specs.declared.outcome.EventOutcome.{EventOutcome}
 use Rattle.raft_cluster_events.specs.declared.outcome.EventOutcome.TheVariants as outcome
 use Rattle.raft_cluster_events.specs.declared.outcome.NodeRefusal.{NodeRefusal}
@@ -24,6 +23,8 @@ use Rattle.raft_cluster_lists.specs.Groups.{BringsTo, GoesOnByCall, GoesOnByOpen
 use Rattle.raft_cluster_lists.specs.Hearing.{HearsOf, IsKeptUntilDone, IsOpening, group_of, opening_report, report_of, stopped_behind}
 use Rattle.raft_cluster_lists.specs.Keeping.{list_in}
 use Rattle.raft_cluster_lists.specs.Lists.{stopped_at}
+use Rattle.raft_cluster_lists.proofs.EventsOn.{opens}
+use Rattle.raft_cluster_lists.proofs.PlaceLemmas.{keeps_itself}
 use Rattle.raft_cluster.specs.Facts.{Sent}
 use Rattle.raft_cluster.proofs.JoinLemmas.{IsOneMore, IsToldSoFar}
 use Rattle.raft_cluster.proofs.PlainLemmas.{first_set_up}
@@ -34,15 +35,6 @@ use Rattle.raft_listed_cluster.proofs.ListFacts.{same_kept}
 use Rattle.raft_listed_cluster.proofs.SetUpFacts.{asked_still}
 
 -- ---- cases
-
-opens : (e : ClusterEvent) → IsOpening e ⊎ (IsOpening e → ⊥)
-opens (event.AddGroup n g) = inr (λ never. never)
-opens (event.Ask n g call now) = inr (λ never. never)
-opens (event.Deliver g number cuts now) = inr (λ never. never)
-opens (event.ResetPeer n peer) = inr (λ never. never)
-opens (event.Fuse n first_refused) = inr (λ never. never)
-opens (event.Crash n choice) = inr (λ never. never)
-opens (event.Reopen n workers) = inl tt
 
 is_of : (g : Option ℕ) (h : ℕ) → (g ≡ Some h) ⊎ (g ≡ Some h → ⊥)
 is_of None h = inr (λ is. absurd (let no : None ≡ Some h = is in cc))
@@ -80,15 +72,8 @@ otherwise : (one other : KeptGroup → KeptGroup → Type 0) → ((k next : Kept
 otherwise one other more None new goes = goes
 otherwise one other more (Some k) new goes = (goes.0, goes.1, more k goes.0 goes.2)
 
-same_group : (k : KeptGroup) → IsSameGroup k k
-same_group k = record { notes = record { accounts = refl; noted = refl }; stopped = λ n. refl }
-
-stays : (kept : Option KeptGroup) → KeepsOn IsSameGroup kept kept
-stays None = refl
-stays (Some k) = (k, refl, same_group k)
-
 pub unheard : (olds news : List KeptGroup) → news ≡ olds → (h : ℕ) → KeepsOn IsSameGroup (kept_in olds h) (kept_in news h)
-unheard olds news same h = subst (λ l. KeepsOn IsSameGroup (kept_in olds h) (kept_in l h)) (sym same) (stays (kept_in olds h))
+unheard olds news same h = subst (λ l. KeepsOn IsSameGroup (kept_in olds h) (kept_in l h)) (sym same) (keeps_itself (kept_in olds h))
 
 pub heard_away : (id : ℕ) (leads : ℕ → Option Leading → Type 0) (e : ClusterEvent) (o : EventOutcome) (why : ClusterRefusal) → o ≡ outcome.TurnedAway why → (accepted : Option Acceptance) (brought : Brought) (olds news : List KeptGroup)
     → IsHeard id leads e o accepted brought olds news → (h : ℕ) → KeepsOn IsSameGroup (kept_in olds h) (kept_in news h)
@@ -99,7 +84,7 @@ heard_away id leads e o why is accepted brought olds news heard h = go (is_of (g
         otherwise (GoesOnByCall id leads h o accepted brought) IsSameGroup (call_away id leads h o why is accepted brought) (kept_in olds h) (kept_in news h) (heard.own h own)
     go (inr other) (inl opening) =
         otherwise (GoesOnByOpening id leads h o) IsSameGroup (opening_away id leads h o why is) (kept_in olds h) (kept_in news h) (heard.each opening h)
-    go (inr other) (inr shut) = subst (KeepsOn IsSameGroup (kept_in olds h)) (sym (heard.others h other shut)) (stays (kept_in olds h))
+    go (inr other) (inr shut) = subst (KeepsOn IsSameGroup (kept_in olds h)) (sym (heard.others h other shut)) (keeps_itself (kept_in olds h))
 
 -- ---- one event more
 
@@ -133,6 +118,7 @@ module _ {N : Type 0} (rules : MachineRules) (acts : NodeActs N) (states : NodeS
       (record {
         keeps = same_kept rules ids h (more.next.told.stand.candidates h) more.next.told.plain (noted_with k (before h)) (noted_with next (behind h)) same.2.notes same.2.stopped (asked_still h history real) on.keeps;
         grows = subst (AgreeBelow (length (list_in (notes_of (Some k) (before h)))) (list_in (notes_of (Some k) (before h)))) (sym lists) on.grows;
+        latest = λ vote other. ap (λ a. a.latest vote) same.2.notes.accounts;
       })
 
   module _ (there : IsNodeOf acts nodes sent e o nodes' later more.one.node) (taken : (why : NodeRefusal) → o ≡ outcome.Refused why → IsOpening e → ⊥) where
@@ -158,7 +144,7 @@ module _ {N : Type 0} (rules : MachineRules) (acts : NodeActs N) (states : NodeS
         subst (IsOn h (Some k)) (sym same) (other_on rules acts states law ids downs nodes sent history t e o nodes' later more h other shut k keeps)
 
     pub heard_each : (olds news : List KeptGroup) (leading : Option Leading) → ((h : ℕ) → group_of e ≡ Some h → acts.leads there.before h leading)
-        → (brought : Brought) → IsReadyFor e olds → BringsTo olds leading e brought
+        → (brought : Brought) → IsReadyFor e 1 olds → BringsTo olds leading e brought
         → (accepted : Option Acceptance) → ((h : ℕ) → group_of e ≡ Some h → accepted ≡ first_accepted (drop (length (sent h)) (later h)))
         → IsHeard more.one.node (acts.leads there.behind) e o accepted brought olds news
         → (h : ℕ) → Keeps h (kept_in olds h) → IsOn h (kept_in olds h) (kept_in news h)

@@ -2,13 +2,15 @@
 ghost use Rattle.std.specs.Prelude.{◌≡◌};
 ghost use Rattle.std.specs.Option.{option_copied};
 ghost use Rattle.raft_sent_frames.specs.Frames.{frames_of};
-ghost use Rattle.raft_cluster.specs.Facts.{node_at};
 ghost use Rattle.raft_cluster_lists.specs.Groups.{IsReadyFor};
 ghost use Rattle.raft_cluster_lists.specs.Hearing.{group_of};
-ghost use Rattle.raft_listed_cluster.specs.Hearing.{AcceptsSince, HasSent, IsHeardOf, Tells};
+ghost use Rattle.raft_cluster.specs.Facts.{node_at, node_of};
+ghost use Rattle.raft_listed_cluster.specs.Hearing.{AcceptsSince, HasSent, IsHeardOf, IsHeardThen, Tells};
+ghost use Rattle.raft_listed_cluster.specs.Numbers.{AcceptsBy};
 
+use crate::numbers::accepts_by;
 use raft_cluster::Cluster;
-use raft_cluster_events::{Acceptance, ClusterNode, Leading, Recorded};
+use raft_cluster_events::{Acceptance, ClusterNode, EventOutcome, Leading, Recorded};
 use raft_cluster_lists::{Brought, ClusterLists, group_of};
 use raft_sent_frames::first_accepted;
 
@@ -66,12 +68,41 @@ pub fn hear_step<N: ClusterNode>(
     recorded: &Recorded,
     brought: Brought,
 )
-    requires { IsReadyFor recorded.now.event lists.old }
+    requires { IsReadyFor recorded.now.event 1 lists.old }
     ensures { IsHeardOf N.acts cluster.now.nodes (frames_of cluster.now.sent) id (group_of recorded.now.event) count
         recorded.now.event recorded.now.outcome brought lists.old lists.new }
 {
     let accepted = accepted_since(cluster, group_of(&recorded.event), count);
     if let Some(node) = node_at(cluster, id) {
+        lists.hear_event(node, &recorded.event, &recorded.outcome, accepted, brought);
+    }
+}
+
+// What an event of this outcome accepts with its frames of the group, if it is of one.
+fn accepted_by<N: ClusterNode>(
+    cluster: &Cluster<N>,
+    group: Option<u64>,
+    outcome: &EventOutcome,
+) -> Option<Acceptance>
+    ensures { AcceptsBy (frames_of cluster.now.sent) group outcome.now result }
+{
+    let group = group?;
+    accepts_by(cluster.frames(group), group, outcome)
+}
+
+/// The lists go on with an event of a round that is over, behind which the cluster is this.
+pub fn hear_behind<N: ClusterNode>(
+    cluster: &Cluster<N>,
+    lists: &mut ClusterLists,
+    recorded: &Recorded,
+    brought: Brought,
+)
+    requires { IsReadyFor recorded.now.event 1 lists.old }
+    ensures { IsHeardThen N.acts cluster.now.nodes (frames_of cluster.now.sent) (node_of (frames_of cluster.now.sent) recorded.now.event)
+        recorded.now.event recorded.now.outcome brought lists.old lists.new }
+{
+    let accepted = accepted_by(cluster, group_of(&recorded.event), &recorded.outcome);
+    if let Some(node) = node_at(cluster, cluster.node_of(&recorded.event)) {
         lists.hear_event(node, &recorded.event, &recorded.outcome, accepted, brought);
     }
 }

@@ -3,8 +3,10 @@
 
 mod hearing;
 mod listed;
+mod numbers;
+mod round;
 
 pub use listed::ListedCluster;
 pub use raft_cluster::{
-    ClusterEvent, ClusterNode, ClusterRefusal, CrashChoice, EventOutcome, Recorded,
+    ClusterEvent, ClusterNode, ClusterRefusal, CrashChoice, EventOutcome, Recorded, RoundRefusal,
 };

@@ -1,5 +1,5 @@
 //! A cluster with the list of each group.
-ghost use Rattle.std.specs.Prelude.{◌≡◌, ◌≤◌, ℕ, [], length, slice_get, take, IfOk, MatchOption, OnOk, OnErr, vec_len};
+ghost use Rattle.std.specs.Prelude.{◌≡◌, ◌≤◌, ℕ, [], not, true, length, slice_get, take, IfErr, IfOk, MatchOption, OnOk, OnErr, vec_len};
 ghost use Rattle.std.specs.Option.{option_copied};
 ghost use Rattle.raft_sent_frames.specs.Frames.{frames_of};
 ghost use Rattle.raft_group_lists.specs.Notes.{accounts_of};
@@ -7,11 +7,13 @@ ghost use Rattle.raft_node_laws.specs.Law.{KeepsLaw};
 ghost use Rattle.raft_cluster.specs.Cluster.{IsReached, Runs, Steps};
 ghost use Rattle.raft_cluster.specs.Facts.{node_in, node_of};
 ghost use Rattle.raft_cluster.specs.Joined.{ids_of};
+ghost use Rattle.raft_cluster.specs.Round.{Rounds, is_for_nodes, is_round};
 ghost use Rattle.raft_cluster.specs.Told.{told_at};
 ghost use Rattle.raft_listed_cluster.specs.Listed.{HasLists, OnlyGrow, lists_of};
 
 use crate::hearing::{hear_step, leading_at, sent_in};
-use raft_cluster::Cluster;
+use crate::round::{hear_round, prepare_round};
+use raft_cluster::{Cluster, RoundRefusal};
 use raft_cluster_events::{ClusterEvent, ClusterNode, Recorded};
 use raft_cluster_lists::{ClusterLists, group_of};
 use raft_group_lists::GroupList;
@@ -20,11 +22,13 @@ use raft_sent_frames::SentFrame;
 use raft_state::{BasicNode, Bytes, Entry};
 use std::alloc::{AllocError, Global};
 use std::marker::Model;
+use std::thread::Threads;
 
 /// A cluster, and the list of each group: all entries that were chosen there (own). It is used in place
 /// of a `Cluster`.
 #[derive(Drop)]
 pub struct ListedCluster<N: ClusterNode> {
+    alloc: Global,
     cluster: Cluster<N>,
     lists: ClusterLists,
 }
@@ -58,6 +62,7 @@ impl<N: ClusterNode> ListedCluster<N> {
         let cluster = Cluster::new(alloc, ids, settings)?;
         cluster.replays();
         Ok(ListedCluster {
+            alloc,
             cluster,
             lists: ClusterLists::new(alloc),
         })
@@ -74,7 +79,7 @@ impl<N: ClusterNode> ListedCluster<N> {
         let id = self.cluster.node_of(&event);
         let group = group_of(&event);
         let leading = leading_at(&self.cluster, id, group);
-        let brought = self.lists.prepare(&leading, &event)?;
+        let brought = self.lists.prepare(&leading, &event, 1)?;
         let count = sent_in(&self.cluster, group);
         self.cluster.step(event)?;
         if let Some(recorded) = self.cluster.history().last() {
@@ -172,5 +177,52 @@ impl<N: ClusterNode> ListedCluster<N> {
         ensures { result.now ≡ self.now.cluster.history }
     {
         self.cluster.history()
+    }
+}
+
+impl<N: ClusterNode + Send> ListedCluster<N>
+where
+    N::Machine: Send,
+    N::Settings: Send,
+{
+    /// Runs the events of a round, each for another node, at once, and says how many happened (own):
+    /// all but crashes for which their nodes lack memory. What comes of it is what `run` gives on these
+    /// events in their order: outcomes, numbers of frames, nodes, history, and the list of each group,
+    /// which only grows. The lists hear of the round once it is over; memory for that is found before
+    /// it. An `Err` changes nothing: C8 where two events are for one node, or a frame wasn't sent before
+    /// the round, else C10.
+    pub fn run_round<R: Threads + Sync>(
+        &mut self,
+        rt: &R,
+        events: Vec<ClusterEvent>,
+    ) -> Result<usize, RoundRefusal>
+        ensures runs { IfOk result (λ count. Rounds N.acts self.old.cluster events.items count self.new.cluster) }
+        ensures round { OnOk result (is_round (frames_of self.old.cluster.sent) events.items ≡ true) }
+        ensures why { IfErr result (λ why. is_for_nodes why ≡ not (is_round (frames_of self.old.cluster.sent) events.items)) }
+        ensures err { OnErr result (self.new.cluster ≡ self.old.cluster) }
+        ensures err_lists { OnErr result ((group : ℕ) → lists_of self.new.groups group ≡ lists_of self.old.groups group) }
+        ensures lists { KeepsLaw N.Machine.rules N.acts N.states → HasLists N.Machine.rules N.acts N.states self.new }
+        ensures grow { KeepsLaw N.Machine.rules N.acts N.states → OnlyGrow (lists_of self.old.groups) (lists_of self.new.groups) }
+    {
+        if !self.cluster.is_round(events.as_slice()) {
+            self.replays();
+            return Err(RoundRefusal::SameNode);
+        }
+        let prepared = prepare_round(
+            self.alloc,
+            &self.cluster,
+            &mut self.lists,
+            events.as_slice(),
+        );
+        let Ok(broughts) = prepared else {
+            self.replays();
+            return Err(RoundRefusal::Memory);
+        };
+        let before = self.cluster.history().len();
+        let count = self.cluster.run_round(rt, events)?;
+        let records = &self.cluster.history()[before..];
+        hear_round(&self.cluster, &mut self.lists, records, broughts);
+        self.replays();
+        Ok(count)
     }
 }

@@ -1,4 +1,4 @@
-use Rattle.std.specs.Prelude.{◌≡◌, ◌++◌, ◌∷◌, ◌≤◌, ℕ, [], List, None, length, slice_get, vec_capacity, refl}
+use Rattle.std.specs.Prelude.{◌≡◌, ◌++◌, ◌∷◌, ◌≤◌, ℕ, suc, [], List, None, length, slice_get, vec_capacity, refl}
 use Rattle.std.proofs.Common.{sym, ap, ◌∙◌, subst, arith}
 use Rattle.raft_group_lists.specs.declared.notes.Lead.{Lead}
 use Rattle.raft_group_lists.specs.Notes.{IsLeadAt, SameLeads, lead_in}
@@ -38,8 +38,8 @@ returns-in_ok-reserve-in-None-clause-room c =
     let grown = c.reserve.ensures.capacity in
     let more : vec_capacity c.args.leads.now ≤ vec_capacity c.push_reserved.new.self = omega arith in
     λ n can.
-    let spare = c.spare_or_new-reached.ensures.left n can.spares_left in (
+    let spare = c.spare_or_new-reached.ensures.left n (suc n) can.spares_left can.spare_nodes in (
       refl,
-      subst (λ (ls : List Lead). HasPlace ls (vec_capacity c.push_reserved.new.self) (length c.spare_or_new-reached.new.spares.items) n) (sym items)
-          (place_of_new c.args.leads.now.items (vec_capacity c.args.leads.now) (length c.args.spares.now.items) n y (vec_capacity c.push_reserved.new.self) (length c.spare_or_new-reached.new.spares.items) can spare.0.empty spare.0.size more spare.1),
+      subst (λ (ls : List Lead). HasPlace ls (vec_capacity c.push_reserved.new.self) c.spare_or_new-reached.new.spares.items n) (sym items)
+          (place_of_new c.args.leads.now.items (vec_capacity c.args.leads.now) c.args.spares.now.items n y (vec_capacity c.push_reserved.new.self) c.spare_or_new-reached.new.spares.items can c.spare_or_new-reached.ensures.empty spare.0 more spare.1 spare.2),
     )

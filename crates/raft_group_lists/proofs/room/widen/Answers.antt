@@ -28,7 +28,7 @@ loop-at-preserved c =
     let size = length-set leads at y in (
       wide,
       omega (arith, inside),
-      space_set leads at 2 x y there c.in_ok-reserve.ensures.ok c.loop-at.invariant.2,
+      space_set leads at c.args.count x y there c.in_ok-reserve.ensures.ok c.loop-at.invariant.2,
     )
 
 pub returns-clause-ok : goal.returns-clause-ok

@@ -107,6 +107,6 @@ returns-clause-room c =
     let place = (c.lead_at.ensures.room n can).1 in
     let y = c.learn_at.new.lead in (
       refl,
-      learned_once middle (vec_capacity c.lead_at.new.leads) (length c.lead_at.new.spares.items) n c.in_ok-at.at y place
+      learned_once middle (vec_capacity c.lead_at.new.leads) c.lead_at.new.spares.items n c.in_ok-at.at y place
           (c.learn_at.ensures.space n (place.nodes c.in_ok-at.at x read)),
     )

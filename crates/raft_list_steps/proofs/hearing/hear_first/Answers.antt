@@ -18,4 +18,4 @@ returns-clause-truth c =
     sets_up s more next x at whole up (Some x) refl
 
 pub returns-clause-room : goal.returns-clause-room
-returns-clause-room c = c.set_up.ensures.room 1 2 (c.write.ensures.room 1 2 c.requires).1
+returns-clause-room c = λ writes learns h. c.set_up.ensures.room writes learns (c.write.ensures.room writes learns h).1

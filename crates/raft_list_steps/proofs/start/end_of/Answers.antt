@@ -19,3 +19,6 @@ returns-clause-ends c =
     ends_behind leading c.args.last c.requires.last c.args.written s start c.in-Ok.at next
     (subst (λ (p : EntryPayload). IsWritten s (entry_of c.args.last p) start c.in-Ok.at next) c.payload_of.ensures whole)
     c.in_default.ensures c.start_of-start.ensures.start
+
+pub returns-clause-room : goal.returns-clause-room
+returns-clause-room c = λ writes learns h. (c.write.ensures.room writes learns h).1

@@ -1,5 +1,5 @@
 use Rattle.std.specs.Prelude.{◌≡◌, ℕ, Option, Some, None}
-use Rattle.std.proofs.Common.{sym, ap, ◌∙◌, subst}
+use Rattle.std.proofs.Common.{sym, ap, ◌∙◌, arith, subst}
 use Rattle.raft_group_step.specs.Values.{EntryPayload}
 use Rattle.raft_list_facts.specs.declared.leading.Leading.{Leading}
 use Rattle.raft_list_steps.specs.declared.report.GroupReport.{GroupReport}
@@ -7,6 +7,7 @@ use Rattle.raft_cluster_events.specs.declared.outcome.EventOutcome.{EventOutcome
 use Rattle.raft_cluster_lists.specs.declared.kept.KeptGroup.{KeptGroup}
 use Rattle.raft_cluster_lists.specs.Hearing.{HearsOf, IsOpeningHeard}
 use Rattle.raft_cluster_lists.specs.Lists.{stopped_at}
+use Rattle.raft_cluster_lists.proofs.ReadyLemmas.{takes_one}
 use Rattle.raft_cluster_lists.proofs.kept.KeptGroup.hear_opening.Goals as goal
 
 abbrev of_lead : ℕ → Option Leading → Option EntryPayload → GroupReport
@@ -25,3 +26,9 @@ returns-in-Done-clause-heard c =
       others = c.take_stopped-written.ensures.others;
       own = tt;
     })
+
+pub returns-in-Done-clause-room : goal.returns-in-Done-clause-room
+returns-in-Done-clause-room c =
+    let old = c.args.self.now in
+    let new : KeptGroup = record { group = old.group; list = c.hear.new.list; stopped = c.take_stopped-written.new.stopped } in
+    takes_one old new c.hear.ensures.room (λ n space. c.take_stopped-written.ensures.room n (omega (arith, space)))

@@ -1,5 +1,4 @@
-use Rattle.std.proofs.Common.{◌≡◌, ℕ, Option, Result, Ok, Err, sym, ◌∙◌, subst}
-use Rattle.std.specs.Prelude.{OnErr}
+use Rattle.std.proofs.Common.{◌≡◌, ℕ, Option, sym, ◌∙◌, subst}
 use Rattle.raft_sent_frames.specs.Frames.{frames_of}
 use Rattle.raft_node_laws.specs.Law.{KeepsLaw}
 use Rattle.raft_cluster.specs.Cluster.{ClusterValue}
@@ -9,13 +8,9 @@ use Rattle.raft_listed_cluster.specs.Keeping.{KeepsLists}
 use Rattle.raft_listed_cluster.specs.Listed.{ListedValue, OnlyGrow, lists_of}
 use Rattle.raft_listed_cluster.proofs.GroupFacts.{prepared_lists}
 use Rattle.raft_listed_cluster.proofs.KeepingFacts.{IsKept, IsSteppedSo, has_lists, prepared_keeps, stepped}
-use Rattle.raft_listed_cluster.proofs.ListFacts.{last_is}
+use Rattle.raft_listed_cluster.proofs.ListFacts.{last_is, on_err}
 use Rattle.raft_listed_cluster.proofs.listed.ListedCluster.step.Given as given
 use Rattle.raft_listed_cluster.proofs.listed.ListedCluster.step.Goals as goal
-
-on_err : {T E : Type 0} (r : Result T E) (P : Type 0) → P → OnErr r P
-on_err (Ok x) P p = tt
-on_err (Err e) P p = p
 
 -- ---- before the event memory was refused: its group may be kept now
 
