@@ -109,7 +109,11 @@ fn next_entries(traces: &GroupTraces, group: u64, before: FileSeq) -> Option<(u6
     let (_, stop) = trace.entries_before(before)?;
     let begin = as_index(trace.rewritten_end());
     let stop = as_index(stop);
-    if begin < stop { Some((begin, stop)) } else { None }
+    if begin < stop {
+        Some((begin, stop))
+    } else {
+        None
+    }
 }
 
 /// Adds copies of a group's entries to the batch for the rewrite queue, from an index on, below which

@@ -26,14 +26,18 @@ pub returns-in_err-path-clause-rest : goal.returns-in_err-path-clause-rest
 returns-in_err-path-clause-rest g c = (0, refl)
 
 pub returns-in_err-delete-clause-rest : goal.returns-in_err-delete-clause-rest
-returns-in_err-delete-clause-rest g c =
-    (1, sym (ap (λ (l : List File). drop 1 l)
-    (removed_first c.args.self.now.older.items c.index-file.result.now c.requires.some c.index-file.ensures ∙ ap (λ (l : List File). c.index-file.result.now ∷ l) (sym c.remove.ensures.items))))
+returns-in_err-delete-clause-rest g c = (
+  1,
+  sym (ap (λ (l : List File). drop 1 l)
+      (removed_first c.args.self.now.older.items c.index-file.result.now c.requires.some c.index-file.ensures ∙ ap (λ (l : List File). c.index-file.result.now ∷ l) (sym c.remove.ensures.items))),
+)
 
 pub returns-clause-rest : goal.returns-clause-rest
-returns-clause-rest g c =
-    (1, sym (ap (λ (l : List File). drop 1 l)
-    (removed_first c.args.self.now.older.items c.index-file.result.now c.requires.some c.index-file.ensures ∙ ap (λ (l : List File). c.index-file.result.now ∷ l) (sym c.remove.ensures.items))))
+returns-clause-rest g c = (
+  1,
+  sym (ap (λ (l : List File). drop 1 l)
+      (removed_first c.args.self.now.older.items c.index-file.result.now c.requires.some c.index-file.ensures ∙ ap (λ (l : List File). c.index-file.result.now ∷ l) (sym c.remove.ensures.items))),
+)
 
 pub returns-in_err-delete-clause-pipe : goal.returns-in_err-delete-clause-pipe
 returns-in_err-delete-clause-pipe g c =
