@@ -15,7 +15,7 @@ fn entries_of(alloc: Global, count: u64) -> Result<Vec<Vec<u8>>, AllocError> {
     Ok(entries)
 }
 
-/// Adds entries from an index up to 1,000 on.
+/// Adds entries from an index up to 2^60 on.
 fn entries(
     batch: &mut LogBatch,
     alloc: Global,
@@ -24,7 +24,7 @@ fn entries(
     count: u64,
 ) -> Result<(), RecordError> {
     let entries = entries_of(alloc, count)?;
-    if first > 1000 {
+    if first > 1 << 60 {
         return Err(RecordError::TooLong);
     }
     batch.add_raw_entries(group, first, &entries)

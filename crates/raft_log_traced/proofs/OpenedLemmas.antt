@@ -204,6 +204,34 @@ next_filed g group low index before o ts us vs k at a =
           (begun_files g low index before o (us group) (sym at) (k.files none));
     }
 
+-- over a hole the files stay what they are
+over_hole : (g : GroupContent EntryIndex) (low from index : ℕ) (before : Option ℕ) (file : ℕ → Option ℕ) → from ≤ index → ((i : ℕ) → from ≤ i → i < index → g.entry i ≡ None)
+    → AreFiledUpTo g low from before file → AreFiledUpTo g low index before file
+over_hole g low from index before file order none k = record {
+  own = λ i f l m is. by_place i m (λ h. k.own i f l h is) (λ nothing. absurd (let gone = ap (file_at lies_in) nothing in cc));
+  some = λ i j l m n s. by_place j m (λ h. k.some i j l h n s) (λ nothing. not_there (file_at lies_in (g.entry j)) (ap (file_at lies_in) nothing) s);
+  told = k.told;
+  tail = λ f is i l. k.tail f is i (omega (arith, order, l));
+}
+  where
+    by_place : {P : Type 0} (i : ℕ) → i < index → (i < from → P) → (g.entry i ≡ None → P) → P
+    by_place {P} i m early hole = by_test (nat_lt i from) refl
+      where
+        by_test : (b : Bool) → nat_lt i from ≡ b → P
+        by_test true e = early (ltb-true i from e)
+        by_test false e = hole (none i (ltb-false i from e) m)
+
+pub filed_over_hole : (g : GroupContent EntryIndex) (group low from index : ℕ) (before : Option ℕ) (ts us : Traces) → from ≤ index → ((i : ℕ) → from ≤ i → i < index → g.entry i ≡ None)
+    → IsFiledOne g group low from before ts us → IsFiledOne g group low index before ts us
+filed_over_hole g group low from index before ts us order none k = record {
+  others = k.others;
+  low_stays = k.low_stays;
+  next_stays = k.next_stays;
+  top_stays = k.top_stays;
+  rest = k.rest;
+  files = λ empty. over_hole g low from index before (us group).entry_file order none (k.files empty);
+}
+
 -- ---- a group is set
 
 files_all : (g : GroupContent EntryIndex) (reach : Option ℕ) (low next top : ℕ) (before : Option ℕ) (file : ℕ → Option ℕ) → AreEnds g reach low next top → AreFiledUpTo g low next before file → AreFilesOf lies_in g file

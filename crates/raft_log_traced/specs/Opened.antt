@@ -23,6 +23,11 @@ abbrev pub run_begun : ℕ → Option ℕ → Option ℕ → Trace → Trace
 run_begun index before None t = t
 run_begun index before (Some file) t = if is_file before file then t else trace_filed index file t
 
+-- the least index of an entry, from an index on and before a limit, or none where no entry is there
+abbrev pub IsNextWithin : GroupContent EntryIndex → ℕ → ℕ → Option ℕ → Type 0
+IsNextWithin g from limit None = (i : ℕ) → from ≤ i → i < limit → g.entry i ≡ None
+IsNextWithin g from limit (Some index) = (from ≤ index) × (index < limit) × ((i : ℕ) → from ≤ i → i < index → g.entry i ≡ None)
+
 -- The files are those of the entries from low up to before an index, of which the last one lies in the file before, if that is one.
 pub record AreFiledUpTo (g : GroupContent EntryIndex) (low index : ℕ) (before : Option ℕ) (file : ℕ → Option ℕ) : Type 0 where
   pub own : (i f : ℕ) → low ≤ i → i < index → file_at lies_in (g.entry i) ≡ Some f → file i ≡ Some f

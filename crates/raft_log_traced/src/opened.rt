@@ -8,7 +8,7 @@ ghost use Rattle.raft_log_covers.specs.Kept.{new_trace, with_trace};
 ghost use Rattle.raft_log_marks.specs.Opened.{AreEnds, file_at, past_of};
 ghost use Rattle.raft_log_memtables.specs.MemTables.{content_in, reach_in};
 ghost use Rattle.raft_log_traced.specs.Opened.{AreChanged, IsFiledOne, HasEntries, HasSince};
-ghost use Rattle.raft_log_traced.specs.Opened.{IsSetOne, is_file, run_begun};
+ghost use Rattle.raft_log_traced.specs.Opened.{IsNextWithin, IsSetOne, is_file, run_begun};
 ghost use Rattle.raft_log_traced.specs.Traced.{lies_in};
 ghost use Rattle.raft_log_traces.specs.Alike.{AreAlike, IsAlike};
 ghost use Rattle.raft_log_traces.specs.GroupTraces.{traces_in};
@@ -85,7 +85,23 @@ fn begin_run(
     traces.set_file(group, index, file)
 }
 
-/// The files of a group's entries are those in which they lie.
+/// The least index at which a group has an entry, from an index on and before another one.
+fn next_within(tables: &MemTables, group: u64, from: u128, limit: u128) -> Option<u64>
+    requires { limit ≤ 2 ^ 64 }
+    ensures { IsNextWithin (content_in tables.now group) from limit result }
+{
+    if limit <= from {
+        return None;
+    }
+    let index = tables.next_index(group, from as u64)?;
+    if limit <= index as u128 {
+        return None;
+    }
+    Some(index)
+}
+
+/// The files of a group's entries are those in which they lie. It goes from entry to entry, over
+/// holes at once.
 fn set_files(
     traces: &mut GroupTraces,
     tables: &MemTables,
@@ -97,10 +113,12 @@ fn set_files(
     requires within { next ≤ 2 ^ 64 }
     ensures { OnOk result ((before : Option ℕ) × IsFiledOne (content_in tables.now group) group low next before (traces_in traces.old) (traces_in traces.new)) }
 {
+    let mut at = low;
     let mut before = None;
-    for index in low..next {
-        let file = file_of(tables, group, index as u64);
-        begin_run(traces, group, index, before, file)?;
+    while let Some(index) = next_within(tables, group, at, next) {
+        let file = file_of(tables, group, index);
+        begin_run(traces, group, index as u128, before, file)?;
+        at = index as u128 + 1;
         before = file;
     }
     Ok(())
