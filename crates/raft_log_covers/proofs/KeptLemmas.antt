@@ -15,7 +15,7 @@ use Rattle.raft_log_covers.specs.Written.{Written, AreWritten, all_records}
 use Rattle.raft_log_covers.specs.Account.{Account, IsFrom, IsAccounted, no_account, account_after, account_after_all, NamesNoneBefore}
 use Rattle.raft_log_covers.specs.Marks.{of_group, after_changes, deletes, is_in, Names, with_group, marks, MayRewrite, names_after_marks, names_after_entries, names_after_put}
 use Rattle.raft_log_covers.specs.Trace.{Trace, file_of, IsBounded, Bounds, Knows, TellsFiles, KnowsRemoved, GoOn, AreRun, trace_after, names_after, trace_marked, trace_rewritten, trace_put, settled_by}
-use Rattle.raft_log_covers.specs.Kept.{GivesAll, HasWhole, traces_after_all, replayed_traces, IsFirstOf, IsReplayed, IsOpened, new_trace, NamesNoEarlier, Traces, IsKept, traces_after_item, traces_after, AllGoOn, with_trace}
+use Rattle.raft_log_covers.specs.Kept.{GivesAll, HasWhole, traces_after_all, replayed_traces, IsFirstOf, IsReplayed, AreReplayed, IsOpened, new_trace, NamesNoEarlier, Traces, IsKept, traces_after_item, traces_after, AllGoOn, with_trace}
 use Rattle.raft_log_covers.proofs.CellLemmas.{records_compose, same_entry, same_value}
 use Rattle.raft_log_covers.proofs.QueueLemmas.{read_as_the_content}
 use Rattle.raft_log_covers.proofs.AccountLemmas.{writes_account, openings_account, either_part, old_rewrites_may_go, files_may_go}
@@ -33,11 +33,11 @@ bounded_by_own : (o : Option ℕ) → IsBounded o o
 bounded_by_own None = tt
 bounded_by_own (Some file) = le_refl file
 
-is_there_is : {X : Type 0} (o : Option X) (x : X) → o ≡ Some x → IsSome o
+pub is_there_is : {X : Type 0} (o : Option X) (x : X) → o ≡ Some x → IsSome o
 is_there_is None x e = absurd cc
 is_there_is (Some y) x e = refl
 
-bounded_by_none : (o kept : Option ℕ) → o ≡ None → IsBounded o kept
+pub bounded_by_none : (o kept : Option ℕ) → o ≡ None → IsBounded o kept
 bounded_by_none None kept e = tt
 bounded_by_none (Some file) kept e = absurd cc
 
@@ -404,8 +404,7 @@ module _ {E : Type 0} where
     keys_since = λ c. absurd (true≢false (sym c));
   }
 
-  pub replays_keep : (opened : Traces) (records : List (List (Item E))) (bs : List (Filed E)) (first : ℕ) → FilesRise first bs
-      → ((group : ℕ) → IsReplayed first (replayed_traces bs group) (opened group) (content_of records group) (after_batches (batches_of bs) (content_of records) group) (account_after_all bs no_account group))
+  pub replays_keep : (opened : Traces) (records : List (List (Item E))) (bs : List (Filed E)) (first : ℕ) → FilesRise first bs → AreReplayed first records bs opened
       → IsKept opened (account_after_all bs no_account) records (after_batches (batches_of bs) (content_of records)) bs
   replays_keep opened records bs first rise has = record {
     accounted = openings_account (content_of records) bs;

@@ -168,9 +168,14 @@ pub record IsReplayed {E : Type 0} (first : ℕ) (t opened : Trace) (older g : G
 abbrev pub replayed_traces : {E : Type 0} → List (Filed E) → Traces
 replayed_traces bs = traces_after_all bs (λ group. new_trace)
 
+-- an opening's traces say so of each group, after these records of the rewrite queue and these batches of the append queue
+abbrev pub AreReplayed : {E : Type 0} → ℕ → List (List (Item E)) → List (Filed E) → Traces → Type 0
+AreReplayed first records bs opened =
+    let older = content_of records in
+    (group : ℕ) → IsReplayed first (replayed_traces bs group) (opened group) (older group) (after_batches (batches_of bs) older group) (account_after_all bs no_account group)
+
 abbrev pub ReplaysKeep : Type 0 → Type 0
-ReplaysKeep E = (opened : Traces) (records : List (List (Item E))) (bs : List (Filed E)) (first : ℕ) → FilesRise first bs
-    → ((group : ℕ) → IsReplayed first (replayed_traces bs group) (opened group) (content_of records group) (after_batches (batches_of bs) (content_of records) group) (account_after_all bs no_account group))
+ReplaysKeep E = (opened : Traces) (records : List (List (Item E))) (bs : List (Filed E)) (first : ℕ) → FilesRise first bs → AreReplayed first records bs opened
     → IsKept opened (account_after_all bs no_account) records (after_batches (batches_of bs) (content_of records)) bs
 
 -- ---- the rewrite queue is written anew

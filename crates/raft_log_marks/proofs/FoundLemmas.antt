@@ -17,8 +17,9 @@ use Rattle.raft_log_covers.specs.Kept.{Traces, new_trace, replayed_traces, trace
 use Rattle.raft_log_covers.specs.Marks.{Names}
 use Rattle.raft_log_covers.specs.Queues.{Filed, FilesRise, batches_of}
 use Rattle.raft_log_covers.specs.Trace.{Trace, least, greater, entered, cut, trace_after, names_after}
-use Rattle.raft_log_covers.proofs.KeptLemmas.{account_after_item, account_after_items, same_account}
+use Rattle.raft_log_covers.proofs.KeptLemmas.{account_after_item, account_after_items, is_there_is, same_account}
 use Rattle.raft_log_marks.specs.Opened.{past_of, reach_of_records}
+use Rattle.raft_log_marks.proofs.StandingLemmas.{from_test}
 
 abbrev pub IsUpTo : ℕ → Option ℕ → Type 0
 IsUpTo file None = Unit {0}
@@ -58,16 +59,9 @@ up_test : (later : ℕ) (b : Bool) (o : Option ℕ) → IsUpTo later o → IsUpT
 up_test later true o u = le_refl later
 up_test later false o u = u
 
-from_test : (first : ℕ) (b : Bool) (o p : Option ℕ) → IsFrom first o → IsFrom first p → IsFrom first (cond b o p)
-from_test first true o p h k = h
-from_test first false o p h k = k
-
 -- which file it is
 same_file : (f k : ℕ) → Some f ≡ Some k → f ≡ k
 same_file f k e = cc
-
-named : (o : Option ℕ) (k : ℕ) → o ≡ Some k → IsSome o
-named o k e = subst (λ (x : Option ℕ). IsSome x) (sym e) refl
 
 which : (o : Option ℕ) → IsSome o → (k : ℕ) × (o ≡ Some k)
 which None s = absurd cc
@@ -281,7 +275,7 @@ module _ {E : Type 0} where
                     let from = ltb-false j limit eb in
                     let file = which (names (index old.0)) old.3 in
                     let next = k.rises old.0 j file.0 (omega (arith, low, from)) old.2 file.1 in
-                    stays i j l from s (named (names (index j)) next.0 next.1)
+                    stays i j l from s (is_there_is (names (index j)) next.0 next.1)
                 by_side false ec =
                     let old = k.below i n j l s in
                     stays i old.0 old.1 (ltb-false old.0 limit ec) old.2 old.3

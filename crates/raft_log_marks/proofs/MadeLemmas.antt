@@ -11,7 +11,7 @@ use Rattle.raft_log_covers.specs.Marks.{Names}
 use Rattle.raft_log_covers.specs.Queues.{batches_of}
 use Rattle.raft_log_covers.specs.Trace.{Trace, IsBounded}
 use Rattle.raft_log_covers.proofs.FileLemmas.{not_there}
-use Rattle.raft_log_covers.proofs.KeptLemmas.{names_late}
+use Rattle.raft_log_covers.proofs.KeptLemmas.{is_there_is, names_late}
 use Rattle.raft_log_covers.proofs.PlacedLemmas.{places_tell_files, traces_tell_keys}
 use Rattle.raft_log_traces.specs.Files.{KeepsFrom}
 use Rattle.raft_log_marks.specs.Opened.{AreEnds, AreFilesOf, IsMadeOf, IsSince, OpenedQueuesCanBeCleaned, file_at, past_of}
@@ -22,9 +22,6 @@ use Rattle.raft_log_marks.proofs.OpenedLemmas.{replays_are_cleanable}
 there_is : {X : Type 0} (o : Option X) → IsSome o → (x : X) × (o ≡ Some x)
 there_is None s = absurd cc
 there_is (Some x) s = (x, refl)
-
-is_some : {X : Type 0} (o : Option X) (x : X) → o ≡ Some x → IsSome o
-is_some o x e = subst (λ p. IsSome p) (sym e) refl
 
 none_of : {P : Type 0} (o : Option ℕ) (f : ℕ) → o ≡ None → o ≡ Some f → P
 none_of o f a b = absurd cc
@@ -45,7 +42,7 @@ module _ {E : Type 0} (at : E → Option ℕ) (first file : ℕ) (t u : Trace) (
   named_in : (j f : ℕ) → file_at at (g.entry j) ≡ Some f → IsSome (g.entry j) × (names (index j) ≡ Some f)
   named_in j f h =
       let e = entry_in at (g.entry j) f h in
-      (is_some (g.entry j) e.0 e.1, lies j e.0 e.1 ∙ e.2)
+      (is_there_is (g.entry j) e.0 e.1, lies j e.0 e.1 ∙ e.2)
 
   since_of : (kept : Option ℕ) → ((kept ≡ Some first) ⊎ (t.since ≡ None)) → IsFirstOf first names kept
   since_of kept (inl e) = inl e
@@ -96,7 +93,7 @@ module _ {E : Type 0} (at : E → Option ℕ) (first file : ℕ) (t u : Trace) (
         let l = next.2 in
         omega (arith, same, l)
     holes_so i low high (Some f) n None q =
-        let some = k.below i (is_some (names (index i)) f n) u.low low (ends.first (omega (arith, low, high))) in
+        let some = k.below i (is_there_is (names (index i)) f n) u.low low (ends.first (omega (arith, low, high))) in
         let e = there_is (g.entry some.0) some.2 in
         let lies_there : IsSome (file_at at (g.entry some.0)) = subst (λ (o : Option ℕ). IsSome o) (lies some.0 e.0 e.1 ∙ ap (file_at at) (sym e.1)) some.3 in
         not_there (u.entry_file i) q (files.some i some.0 some.1 lies_there)

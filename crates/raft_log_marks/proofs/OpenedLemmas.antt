@@ -8,7 +8,7 @@ use Rattle.raft_log_covers.specs.Queues.{Filed, batches_of}
 use Rattle.raft_log_covers.specs.Account.{Account, account_after, account_after_all}
 use Rattle.raft_log_covers.specs.Marks.{Names}
 use Rattle.raft_log_covers.specs.Trace.{Trace, file_of, IsBounded, Bounds, Knows, TellsFiles}
-use Rattle.raft_log_covers.proofs.KeptLemmas.{replays_keep}
+use Rattle.raft_log_covers.proofs.KeptLemmas.{bounded_by_none, replays_keep}
 use Rattle.raft_log_marks.specs.MarkLaws.{NamesBehind}
 use Rattle.raft_log_marks.specs.Opened.{ReplaysAreCleanable, SettledGroupsKeepNoFile, trace_settled}
 use Rattle.raft_log_marks.proofs.CleaningLemmas.{items_behind}
@@ -23,10 +23,6 @@ replays_are_cleanable opened records bs first rise has = record {
   kept = replays_keep opened records bs first rise has;
   behind = all_behind bs _ _ (λ group i j l s n. absurd cc);
 }
-
-unbounded : (o kept : Option ℕ) → o ≡ None → IsBounded o kept
-unbounded None kept e = tt
-unbounded (Some f) kept e = absurd cc
 
 settled_knows : {E : Type 0} (t : Trace) (older g : GroupContent E) (names : Names) → Knows t older g names → Knows (trace_settled t) older g names
 settled_knows t older g names k = record {
@@ -53,7 +49,7 @@ settled_groups_keep_no_file {E} traces account records content bs settled k none
 }
   where
     bounds_at : (group : ℕ) (b : Bool) → settled group ≡ b → Bounds (cond b (trace_settled (traces group)) (traces group)) (content group) (account group)
-    bounds_at group true e = λ c. unbounded (account group c) (file_of (trace_settled (traces group)) (content group) c) (none group e c)
+    bounds_at group true e = λ c. bounded_by_none (account group c) (file_of (trace_settled (traces group)) (content group) c) (none group e c)
     bounds_at group false e = k.kept.bounds group
 
     knows_at : (group : ℕ) (b : Bool) → Knows (cond b (trace_settled (traces group)) (traces group)) (content_of records group) (content group) (account group)

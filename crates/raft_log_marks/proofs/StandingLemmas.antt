@@ -37,7 +37,7 @@ from_both first None b h k = k
 from_both first (Some f) None h k = h
 from_both first (Some f) (Some g) h k = omega (arith, h, k)
 
-from_test : (first : ℕ) (b : Bool) (o p : Option ℕ) → IsFrom first o → IsFrom first p → IsFrom first (cond b o p)
+pub from_test : (first : ℕ) (b : Bool) (o p : Option ℕ) → IsFrom first o → IsFrom first p → IsFrom first (cond b o p)
 from_test first true o p h k = h
 from_test first false o p h k = k
 

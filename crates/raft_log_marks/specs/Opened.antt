@@ -9,14 +9,13 @@ use Rattle.raft_log_covers.specs.Placed.{AreFiled}
 use Rattle.raft_log_covers.specs.Queues.{Filed, batches_of, FilesRise}
 use Rattle.raft_log_covers.specs.Account.{Account, no_account, account_after_all}
 use Rattle.raft_log_covers.specs.Trace.{Trace}
-use Rattle.raft_log_covers.specs.Kept.{Traces, IsReplayed, replayed_traces}
+use Rattle.raft_log_covers.specs.Kept.{Traces, AreReplayed, replayed_traces}
 use Rattle.raft_log_marks.specs.Cleaning.{IsCleanable}
 use Rattle.raft_log_marks.specs.Standing.{CanBeCleaned}
 
 -- After a replay of the append queue over the rewrite queue, whatever files were left over, with traces that say what the laws ask.
 abbrev pub ReplaysAreCleanable : Type 0 → Type 0
-ReplaysAreCleanable E = (opened : Traces) (records : List (List (Item E))) (bs : List (Filed E)) (first : ℕ) → FilesRise first bs
-    → ((group : ℕ) → IsReplayed first (replayed_traces bs group) (opened group) (content_of records group) (after_batches (batches_of bs) (content_of records) group) (account_after_all bs no_account group))
+ReplaysAreCleanable E = (opened : Traces) (records : List (List (Item E))) (bs : List (Filed E)) (first : ℕ) → FilesRise first bs → AreReplayed first records bs opened
     → IsCleanable opened (account_after_all bs no_account) records (after_batches (batches_of bs) (content_of records)) bs
 
 -- the trace of a group of which all stands in the rewrite queue: it keeps no file

@@ -1,8 +1,9 @@
 //! What the log engine keeps of groups for cleaning, a row of text each: items that are written to
-//! append files, and which marks, entries, keys and files the traces then tell.
+//! append files or found by an opening, and which marks, entries, keys and files the traces then tell.
 #![tactic(auto)]
 
 mod cleaning;
+mod opening;
 mod rows;
 mod writing;
 

@@ -51,7 +51,8 @@ fn delete(batch: &mut LogBatch, alloc: Global, group: u64, key: &str) -> Result<
     batch.delete(group, key)
 }
 
-fn add_item(
+/// Adds an item of a group to a batch.
+pub fn add_item(
     batch: &mut LogBatch,
     alloc: Global,
     group: u64,

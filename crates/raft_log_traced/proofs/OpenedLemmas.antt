@@ -11,6 +11,7 @@ use Rattle.raft_log_memtables.specs.Entries.{IsFirst, IsLast}
 use Rattle.raft_log_covers.specs.Kept.{Traces, with_trace}
 use Rattle.raft_log_covers.specs.Trace.{Trace}
 use Rattle.raft_log_covers.proofs.FileLemmas.{not_there}
+use Rattle.raft_log_covers.proofs.KeptLemmas.{is_there_is}
 use Rattle.raft_log_traces.specs.Alike.{IsAlike, AreAlike}
 use Rattle.raft_log_traces.specs.Opened.{trace_filed, trace_since, trace_with_ends}
 use Rattle.raft_log_traces.proofs.AlikeLemmas.{joined, same}
@@ -18,9 +19,6 @@ use Rattle.raft_log_traces.proofs.OpenedLemmas.{since_same}
 use Rattle.raft_log_marks.specs.Opened.{AreEnds, AreFilesOf, file_at, past_of}
 use Rattle.raft_log_traced.specs.Opened.{AreChanged, AreFiledUpTo, HasEntries, HasRest, HasSince, IsFiledOne, IsSetOne, is_file, run_begun}
 use Rattle.raft_log_traced.specs.Traced.{lies_in}
-
-some_is : {X : Type 0} (o : Option X) (x : X) → o ≡ Some x → IsSome o
-some_is o x e = subst (λ p. IsSome p) (sym e) refl
 
 -- ---- ends
 
@@ -133,7 +131,7 @@ module _ (g : GroupContent EntryIndex) (low index : ℕ) (before : Option ℕ) (
   same_file_there file at is = record {
     own = λ i f l m said. by_last i index m (λ h. k.own i f l h said)
         (λ same. k.tail file is i (let low = same in omega (arith, low)) ∙ sym at ∙ sym (ap (λ (n : ℕ). file_at lies_in (g.entry n)) same) ∙ said);
-    some = λ i j l m n s. by_last j index m (λ h. k.some i j l h n s) (λ same. some_is (t.entry_file i) file (k.tail file is i (omega (arith, same, n))));
+    some = λ i j l m n s. by_last j index m (λ h. k.some i j l h n s) (λ same. is_there_is (t.entry_file i) file (k.tail file is i (omega (arith, same, n))));
     told = k.told;
     tail = λ f said i l. k.tail f (is ∙ said) i (omega (arith, l));
   }
@@ -210,7 +208,7 @@ next_filed g group low index before o ts us vs k at a =
 
 files_all : (g : GroupContent EntryIndex) (reach : Option ℕ) (low next top : ℕ) (before : Option ℕ) (file : ℕ → Option ℕ) → AreEnds g reach low next top → AreFiledUpTo g low next before file → AreFilesOf lies_in g file
 files_all g reach low next top before file ends k = record {
-  own = λ i f is. inside i (some_is (file_at lies_in (g.entry i)) f is) (λ l m. k.own i f l m is);
+  own = λ i f is. inside i (is_there_is (file_at lies_in (g.entry i)) f is) (λ l m. k.own i f l m is);
   some = λ i j l s. inside j s (λ from to. k.some i j from to l s);
   told = k.told;
 }
