@@ -175,6 +175,7 @@ module _ {F : Type 0} (disk : F → Disk) (old : Parts F) where
     pub place : FileBlockHandle
     pub placed : (b : EntriesBlock) → block ≡ Some b → IsPlace h b place
     pub applied : content_in tables ≡ after_batch (batch_items place drained) (content_in old.tables)
+    pub named : place.id ≡ h.id
     pub read : with_bytes (block_of items) (items_of drained.items.items) ≡ items
     pub lengths_are : with_lengths (items_of drained.items.items) ≡ lengths items
 
@@ -182,7 +183,7 @@ module _ {F : Type 0} (disk : F → Disk) (old : Parts F) where
       → ArePipes p (disk files) → KeepsFiles old.pipes.append p.append → IsAsBefore old.pipes.rewrite (disk old.files) p.rewrite (disk files)
       → ((s u : Numbered) → Holds old.pipes.append (disk old.files) s u → HoldsMore p.append (disk files) sync s (u ++ (h.id.seq, items) ∷ [])) → Stands old.pipes.append (disk old.files) p.append items h
       → ((signature : Option ℕ) → StandsIn (spell_record signature items) items (block_of items) block)
-      → (place : FileBlockHandle) × ((b : EntriesBlock) → block ≡ Some b → IsPlace h b place) × (content_in tables ≡ after_batch (batch_items place drained) (content_in old.tables))
+      → (place : FileBlockHandle) × ((b : EntriesBlock) → block ≡ Some b → IsPlace h b place) × (content_in tables ≡ after_batch (batch_items place drained) (content_in old.tables)) × (place.id ≡ h.id)
       → with_bytes (block_of given) (items_of drained.items.items) ≡ given → with_lengths (items_of drained.items.items) ≡ lengths given → IsDone files p tables sync items h block drained
   done_from files p tables sync items given h block drained same plain pipes keeps other puts stands block_stands applied read lens = record {
     plain = ap (list_any holds_mark) same ∙ plain;
@@ -195,6 +196,7 @@ module _ {F : Type 0} (disk : F → Disk) (old : Parts F) where
     place = applied.0;
     placed = applied.1;
     applied = applied.2;
+    named = applied.3;
     read = subst (λ (l : Batch). with_bytes (block_of l) (items_of drained.items.items) ≡ l) (sym same) read;
     lengths_are = subst (λ (l : Batch). with_lengths (items_of drained.items.items) ≡ lengths l) (sym same) lens;
   }
@@ -238,7 +240,7 @@ module _ {F : Type 0} (disk : F → Disk) (old : Parts F) where
 
     -- the blocks that are kept stay what they are, and the files may be cleaned by the traces of all batches
     pub done_blocks : (traces others : GroupTraces) (cache : BlockCache) → HoldsBlocks (disk old.files) old.pipes (record { tables = old.tables; traces = traces }) old.wrote_unsynced cache
-        → IsNoted traces others old.tables h items → (wrote_unsynced : Bool) → (wrote_unsynced ≡ false → (sync ≡ true) × (old.wrote_unsynced ≡ false))
+        → IsNoted (record { tables = old.tables; traces = traces }) (record { tables = tables; traces = others }) h items → (wrote_unsynced : Bool) → (wrote_unsynced ≡ false → (sync ≡ true) × (old.wrote_unsynced ≡ false))
         → HoldsBlocks (disk files) p (record { tables = tables; traces = others }) wrote_unsynced cache
     done_blocks traces others cache held noted wrote_unsynced none =
         let b = held.batches in
@@ -248,7 +250,7 @@ module _ {F : Type 0} (disk : F → Disk) (old : Parts F) where
         record {
           batches = done_batches b wrote_unsynced none;
           blocks = λ at bytes kept. settled_more old.pipes p b.rewrites (b.synced ++ b.unsynced) _ h.id.seq items is.other.same is.keeps split at bytes (held.blocks at bytes kept);
-          traces = more_traced old.pipes p (disk files) traces others old.tables b.rewrites (b.synced ++ b.unsynced)
+          traces = more_traced old.pipes p (disk files) (record { tables = old.tables; traces = traces }) (record { tables = tables; traces = others }) b.rewrites (b.synced ++ b.unsynced)
               (b.synced ++ take m.count l) (drop m.count l) h items b.held.pipes.append.numbers is.pipes.append.numbers is.keeps (is.stands b.synced b.unsynced b.held.append) m.holds (sym split) b.held.tabled.lengths noted held.traces;
         }
 

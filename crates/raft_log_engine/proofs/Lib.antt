@@ -2,6 +2,7 @@ pub mod Appended
 pub mod Batches
 pub mod Rising
 pub mod Runs
+pub mod Telling
 pub mod Traced
 pub mod CacheLemmas
 pub mod Fetched

@@ -199,7 +199,7 @@ module _ (b : DualPipesBuilder) (mode : RecoveryMode) (said : List Text) (at : d
 
   pub recovered_as : (new : Disk) (p : DualPipes) (all : List Placed) (traced : TracedTables) → IsFoundBy b Append made → IsFoundBy b Rewrite made → ((queue : LogQueue) → CantBeOpened b.config.recovery_mode b queue made → ⊥)
       → ArePipes p new → (w : ArePipesWith b made new p all) → content_in traced.tables ≡ content_over nothing all
-      → IsTraced p traced.traces (batches_of Rewrite made w.rewrite.files) (batches_of Append made w.append.files) → IsRecoveredAs mode said d new p traced
+      → IsTraced p traced (batches_of Rewrite made w.rewrite.files) (batches_of Append made w.append.files) → IsRecoveredAs mode said d new p traced
   recovered_as new p all traced append rewrite none pipes w content traces = record {
     rewrites = batches_of Rewrite made w.rewrite.files;
     appends = batches_of Append made w.append.files;

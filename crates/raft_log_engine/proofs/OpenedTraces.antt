@@ -28,8 +28,9 @@ use Rattle.raft_log_covers.specs.Queues.{Filed, FilesRise}
 use Rattle.raft_log_covers.specs.Queues as queues
 use Rattle.raft_log_traces.specs.GroupTraces.{traces_in}
 use Rattle.raft_log_traced.specs.declared.traced.TracedTables.{TracedTables}
-use Rattle.raft_log_traced.specs.Traced.{AreOf, filed_in}
+use Rattle.raft_log_traced.specs.Traced.{AreOf, filed_in, lies_in}
 use Rattle.raft_log_marks.specs.Mapped.{filed_map, items_map}
+use Rattle.raft_log_marks.specs.Opened.{TellPlaces}
 use Rattle.raft_log_marks.specs.Standing.{CanBeCleaned}
 use Rattle.raft_log_marks.proofs.MappedLemmas.{cleaned_mapped, rise_before, unmarked_before}
 use Rattle.raft_log_blocks.specs.Held.{IsTabled, ReadsEntries, content_of_batches}
@@ -42,11 +43,11 @@ use Rattle.raft_log_engine.proofs.Rising.{holds_rise}
 
 -- ---- batches as a machine got them, with the numbers of their files
 
--- they may be cleaned, if files of the append queue rise and none of its batches is marked
-abbrev pub MayBeTraced : ℕ → TracedTables → List Placed → List Placed → Type 0
-MayBeTraced first traced rewrites appends =
-    FilesRise first (filed_in appends) → AreUnmarked (queues.batches_of (filed_in appends))
-    → CanBeCleaned first (traces_in traced.traces) (records_in rewrites) (content_in traced.tables) (filed_in appends)
+-- they may be cleaned and entries lie where the traces say, if files of the append queue rise and none of its batches is marked
+pub record MayBeTraced (first : ℕ) (traced : TracedTables) (rewrites appends : List Placed) : Type 0 where
+  pub cleanable : FilesRise first (filed_in appends) → AreUnmarked (queues.batches_of (filed_in appends))
+      → CanBeCleaned first (traces_in traced.traces) (records_in rewrites) (content_in traced.tables) (filed_in appends)
+  pub placed : FilesRise first (filed_in appends) → AreUnmarked (queues.batches_of (filed_in appends)) → TellPlaces lies_in (traces_in traced.traces) (content_in traced.tables)
 
 abbrev filed_seen : (EntryIndex → List ℕ) → List Placed → List (Filed (List ℕ))
 filed_seen f all = map (filed_map f) (filed_in all)
@@ -105,7 +106,7 @@ pub found_traced : (d new : Disk) (p : DualPipes) (rfs afs : List File) (ones tw
     → Holds p.rewrite new (batches_of p.rewrite.queue d rfs) [] → Holds p.append new (batches_of p.append.queue d afs) []
     → ((f : File) → IsIn f rfs → IsIn f (files_of p.rewrite)) → ((f : File) → IsIn f afs → IsIn f (files_of p.append))
     → AreAllGot p.rewrite.queue d [] rfs ones → AreAllGot p.append.queue d [] afs twos → IsTabled p (batches_of p.rewrite.queue d rfs) (batches_of p.append.queue d afs) traced.tables
-    → MayBeTraced (first_of p.append) traced ones twos → IsTraced p traced.traces (batches_of p.rewrite.queue d rfs) (batches_of p.append.queue d afs)
+    → MayBeTraced (first_of p.append) traced ones twos → IsTraced p traced (batches_of p.rewrite.queue d rfs) (batches_of p.append.queue d afs)
 found_traced d new p rfs afs ones twos traced pipes rewrite append in_rewrites in_appends one two tabled may none =
     let front : Numbered = batches_of p.rewrite.queue d rfs in
     let behind : Numbered = batches_of p.append.queue d afs in
@@ -118,22 +119,23 @@ found_traced d new p rfs afs ones twos traced pipes rewrite append in_rewrites i
     let batches : filed_seen read twos ≡ filed behind = all_filed p.append behind read (seen_bytes p.append behind read (λ e bytes lies. reads e bytes (inr lies))) d [] afs twos in_appends refl two in
     let rise : FilesRise first (filed behind) = subst (λ (l : Numbered). FilesRise first (filed l)) (append-nil behind) (holds_rise p.append new behind [] pipes.append.numbers append) in
     let plain : AreUnmarked (queues.batches_of (filed_in twos)) = unmarked_before read (filed_in twos) (subst (λ (l : List (Filed (List ℕ))). AreUnmarked (queues.batches_of l)) (sym batches) none) in
-    let can : CanBeCleaned first (traces_in traced.traces) (records_in ones) (content_in traced.tables) (filed_in twos) =
-    may (rise_before read first (filed_in twos) (subst (λ (l : List (Filed (List ℕ))). FilesRise first l) (sym batches) rise))
-    plain in
-    subst (λ (l : List (Filed (List ℕ))). CanBeCleaned first (traces_in traced.traces) (unnumbered front) (content_of_batches (front ++ behind)) l) batches
-    (subst (λ (c : Content (List ℕ)). CanBeCleaned first (traces_in traced.traces) (unnumbered front) c (filed_seen read twos)) (tabled.content read reads)
-    (subst (λ (l : List Batch). CanBeCleaned first (traces_in traced.traces) l (content_map read (content_in traced.tables)) (filed_seen read twos)) records
-    (cleaned_mapped read first (traces_in traced.traces) (records_in ones) (content_in traced.tables) (filed_in twos) can)))
+    let low : FilesRise first (filed_in twos) = rise_before read first (filed_in twos) (subst (λ (l : List (Filed (List ℕ))). FilesRise first l) (sym batches) rise) in
+    record {
+      cleanable = subst (λ (l : List (Filed (List ℕ))). CanBeCleaned first (traces_in traced.traces) (unnumbered front) (content_of_batches (front ++ behind)) l) batches
+          (subst (λ (c : Content (List ℕ)). CanBeCleaned first (traces_in traced.traces) (unnumbered front) c (filed_seen read twos)) (tabled.content read reads)
+          (subst (λ (l : List Batch). CanBeCleaned first (traces_in traced.traces) l (content_map read (content_in traced.tables)) (filed_seen read twos)) records
+          (cleaned_mapped read first (traces_in traced.traces) (records_in ones) (content_in traced.tables) (filed_in twos) (may.cleanable low plain))));
+      placed = may.placed low plain;
+    }
 
 pub recovered_traced : (b : DualPipesBuilder) (made new : Disk) (p : DualPipes) (all : List Placed) (traced : TracedTables) → ArePipes p new → (w : ArePipesWith b made new p all) → content_in traced.tables ≡ content_over nothing all
-    → MayBeTraced (first_of p.append) traced w.rewrites w.appends → IsTraced p traced.traces (batches_of Rewrite made w.rewrite.files) (batches_of Append made w.append.files)
+    → MayBeTraced (first_of p.append) traced w.rewrites w.appends → IsTraced p traced (batches_of Rewrite made w.rewrite.files) (batches_of Append made w.append.files)
 recovered_traced b made new p all traced pipes w content may =
     let one : AreAllGot p.rewrite.queue made [] w.rewrite.files w.rewrites = subst (λ (x : LogQueue). AreAllGot x made [] w.rewrite.files w.rewrites) (sym p.rewrites) w.rewrite.got in
     let two : AreAllGot p.append.queue made [] w.append.files w.appends = subst (λ (x : LogQueue). AreAllGot x made [] w.append.files w.appends) (sym p.appends) w.append.got in
     let rewrite : Holds p.rewrite new (batches_of p.rewrite.queue made w.rewrite.files) [] = subst (λ (x : LogQueue). Holds p.rewrite new (batches_of x made w.rewrite.files) []) (sym p.rewrites) w.rewrite.pipe.holds in
     let append : Holds p.append new (batches_of p.append.queue made w.append.files) [] = subst (λ (x : LogQueue). Holds p.append new (batches_of x made w.append.files) []) (sym p.appends) w.append.pipe.holds in
-    subst (λ (x : LogQueue). IsTraced p traced.traces (batches_of x made w.rewrite.files) (batches_of Append made w.append.files)) p.rewrites
-    (subst (λ (x : LogQueue). IsTraced p traced.traces (batches_of p.rewrite.queue made w.rewrite.files) (batches_of x made w.append.files)) p.appends
+    subst (λ (x : LogQueue). IsTraced p traced (batches_of x made w.rewrite.files) (batches_of Append made w.append.files)) p.rewrites
+    (subst (λ (x : LogQueue). IsTraced p traced (batches_of p.rewrite.queue made w.rewrite.files) (batches_of x made w.append.files)) p.appends
     (found_traced made new p w.rewrite.files w.append.files w.rewrites w.appends traced pipes rewrite append w.rewrite.pipe.among w.append.pipe.among one two
     (found_tabled made p w.rewrite.files w.append.files w.rewrites w.appends traced.tables w.rewrite.pipe.among w.append.pipe.among one two (content ∙ ap (content_over nothing) w.all_are)) may))

@@ -70,6 +70,10 @@ module _ {E F : Type 0} (f : E → F) where
   followed (delete name) h = tt
   followed (mark id status) h = tt
 
+pub follow_all : (items : List (Item ℕ)) → AllByRecursion IsItem items → AllByRecursion (λ item. Follows item.change) items
+follow_all [] h = tt
+follow_all (item ∷ items) h = (follows item.change h.0.change, follow_all items h.1)
+
 pub follow_each : (items : Batch) → AllByRecursion IsItem (lengths items) → AllByRecursion (λ item. Follows item.change) items
 follow_each [] h = tt
 follow_each (item ∷ items) h = (followed length item.change (follows (change_map length item.change) h.0.change), follow_each items h.1)

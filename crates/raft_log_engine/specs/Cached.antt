@@ -42,7 +42,7 @@ IsSettled p rewrites appends handle entries = (read : FileBlockHandle → List �
 pub record HoldsBlocks (d : Disk) (p : DualPipes) (traced : TracedTables) (wrote_unsynced : Bool) (cache : BlockCache) : Type 0 where
   pub batches : HoldsBatches d p traced.tables wrote_unsynced
   pub blocks : (handle : FileBlockHandle) (entries : List ℕ) → Keeps cache handle entries → IsSettled p batches.rewrites (batches.synced ++ batches.unsynced) handle entries
-  pub traces : IsTraced p traced.traces batches.rewrites (batches.synced ++ batches.unsynced)
+  pub traces : IsTraced p traced batches.rewrites (batches.synced ++ batches.unsynced)
 
 abbrev pub IsEngine : Disk → DualPipes → TracedTables → Bool → Bool → BlockCache → Type 0
 IsEngine d p traced is_stopped wrote_unsynced cache = is_stopped ≡ false → HoldsBlocks d p traced wrote_unsynced cache

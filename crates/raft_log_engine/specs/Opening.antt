@@ -86,4 +86,4 @@ pub record IsRecoveredAs (mode : RecoveryMode) (directories : List Text) (d new 
   pub rewrite : FindsSound mode directories Rewrite d rewrites
   pub append : FindsSound mode directories Append d appends
   pub kept : IsKept new p traced.tables rewrites appends
-  pub traces : IsTraced p traced.traces rewrites appends
+  pub traces : IsTraced p traced rewrites appends

@@ -59,7 +59,7 @@ pub(crate) fn apply(
 ) -> Result<(), EngineFault>
     requires { IfSome block (λ b. written.offset + b.offset < 2 ^ 64) }
     ensures ok { OnOk result ((place : FileBlockHandle) × ((b : EntriesBlock) → block ≡ Some b → IsPlace written b place)
-        × (content_in traced.new.tables ≡ after_batch (batch_items place items) (content_in traced.old.tables))) }
+        × (content_in traced.new.tables ≡ after_batch (batch_items place items) (content_in traced.old.tables)) × (place.id ≡ written.id)) }
     ensures traces { OnOk result (AreAlike (traces_after written.id.seq (items_of items.items.items) (traces_in traced.old.traces)) (traces_in traced.new.traces)) }
     ensures err { IfErr result (λ e. e ≡ Log Memory) }
 {

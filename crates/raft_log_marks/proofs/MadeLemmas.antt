@@ -1,20 +1,22 @@
 -- The traces that an opening makes are what the laws ask.
-use Rattle.std.proofs.Common.{◌≡◌, ◌≤◌, ◌<◌, ◌-◌, ℕ, Bool, true, false, List, Option, Some, None, refl, sym, ap, subst, ◌∙◌, arith, le_refl, ltb-true, ltb-false, ◌⊎◌, inl, inr, ⊎_elim}
+use Rattle.std.proofs.Common.{◌≡◌, ◌≤◌, ◌<◌, ◌-◌, ℕ, Bool, true, false, List, Option, Some, None, refl, sym, ap, subst, ◌∙◌, arith, le_refl, ltb-true, ltb-false, ◌⊎◌, inl, inr, ⊎_elim, ◌++◌}
 use Rattle.std.specs.Prelude.{IsSome, nat_lt}
+use Rattle.raft_log_records.specs.Item.{Item}
 use Rattle.raft_log_memtables.specs.Content.{GroupContent}
 use Rattle.raft_log_memtables.specs.Replay.{content_of}
 use Rattle.raft_log_covers.specs.Account.{IsFrom, account_after_all, no_account}
-use Rattle.raft_log_covers.specs.Cells.{Cell, after_batches}
+use Rattle.raft_log_covers.specs.Cells.{AreUnmarked, Cell, after_batches}
 use Rattle.raft_log_covers.specs.Cells.Cell.{index, key}
-use Rattle.raft_log_covers.specs.Kept.{IsFirstOf, IsReplayed, new_trace, replayed_traces}
+use Rattle.raft_log_covers.specs.Kept.{IsFirstOf, IsReplayed, Traces, new_trace, replayed_traces}
 use Rattle.raft_log_covers.specs.Marks.{Names}
-use Rattle.raft_log_covers.specs.Queues.{batches_of}
+use Rattle.raft_log_covers.specs.Placed.{AreFiled}
+use Rattle.raft_log_covers.specs.Queues.{Filed, FilesRise, batches_of}
 use Rattle.raft_log_covers.specs.Trace.{Trace, IsBounded}
 use Rattle.raft_log_covers.proofs.FileLemmas.{not_there}
 use Rattle.raft_log_covers.proofs.KeptLemmas.{is_there_is, names_late}
 use Rattle.raft_log_covers.proofs.PlacedLemmas.{places_tell_files, traces_tell_keys}
 use Rattle.raft_log_traces.specs.Files.{KeepsFrom}
-use Rattle.raft_log_marks.specs.Opened.{AreEnds, AreFilesOf, IsMadeOf, IsSince, OpenedQueuesCanBeCleaned, file_at, past_of}
+use Rattle.raft_log_marks.specs.Opened.{AreEnds, AreFilesOf, IsMadeOf, IsSince, OpenedQueuesCanBeCleaned, OpenedQueuesTellPlaces, TellPlaces, file_at, past_of, reach_of_records}
 use Rattle.raft_log_marks.specs.Whole.{HasLast}
 use Rattle.raft_log_marks.proofs.FoundLemmas.{Found, replay_found}
 use Rattle.raft_log_marks.proofs.OpenedLemmas.{replays_are_cleanable}
@@ -166,24 +168,38 @@ module _ {E : Type 0} (at : E → Option ℕ) (first file : ℕ) (t u : Trace) (
       ))
       m.ends
 
+module _ {E : Type 0} (at : E → Option ℕ) (first : ℕ) (opened : Traces) (records : List (List (Item E))) (bs : List (Filed E)) (rise : FilesRise first bs) (unmarked : AreUnmarked (batches_of bs))
+    (older : (group i : ℕ) (e : E) → (content_of records group).entry i ≡ Some e → at e ≡ None) (filed : AreFiled at bs)
+    (has : (group : ℕ) → IsMadeOf at first (after_batches (batches_of bs) (content_of records) group) (reach_of_records (records ++ batches_of bs) group) (replayed_traces bs group) (opened group)) where
+  each_made : (group : ℕ) → IsReplayed first (replayed_traces bs group) (opened group) (content_of records group) (after_batches (batches_of bs) (content_of records) group) (account_after_all bs no_account group)
+      × KeepsFrom first (opened group) × HasLast (opened group) (after_batches (batches_of bs) (content_of records) group)
+  each_made group =
+      let k = replay_found first records bs rise unmarked group in
+      made at first k.0 (replayed_traces bs group) (opened group) (content_of records group) (after_batches (batches_of bs) (content_of records) group) (account_after_all bs no_account group) _ k.1
+      (names_late first first bs no_account (le_refl first) rise (λ g c. tt) group)
+      (λ i e is. places_tell_files at (content_of records) bs older filed group i e is)
+      (λ q s. traces_tell_keys (content_of records) bs (λ g. new_trace) (λ g name. refl) group q s)
+      (has group)
+
+  each_told : TellPlaces at opened (after_batches (batches_of bs) (content_of records))
+  each_told group i some = by_entry ((after_batches (batches_of bs) (content_of records) group).entry i) refl
+    where
+      by_entry : (o : Option E) → (after_batches (batches_of bs) (content_of records) group).entry i ≡ o → file_at at o ≡ (opened group).entry_file i
+      by_entry None is = not_there ((after_batches (batches_of bs) (content_of records) group).entry i) is some
+      by_entry (Some e) is = sym (places_tell_files at (content_of records) bs older filed group i e is) ∙ (each_made group).0.files.entries_named i some
+
 pub opened_queues_can_be_cleaned : {E : Type 0} → OpenedQueuesCanBeCleaned E
-opened_queues_can_be_cleaned {E} at first opened records bs rise unmarked older filed has = record {
+opened_queues_can_be_cleaned at first opened records bs rise unmarked older filed has = record {
   account = account_after_all bs no_account;
   start = content_of records;
   base = refl;
-  cleanable = replays_are_cleanable opened records bs first rise (λ group. (each group).0);
+  cleanable = replays_are_cleanable opened records bs first rise (λ group. (each_made at first opened records bs rise unmarked older filed has group).0);
   rise = rise;
   unmarked = unmarked;
-  kept = λ group. (each group).1;
-  last = λ group. (each group).2;
+  kept = λ group. (each_made at first opened records bs rise unmarked older filed has group).1;
+  last = λ group. (each_made at first opened records bs rise unmarked older filed has group).2;
 }
-  where
-    each : (group : ℕ) → IsReplayed first (replayed_traces bs group) (opened group) (content_of records group) (after_batches (batches_of bs) (content_of records) group) (account_after_all bs no_account group)
-        × KeepsFrom first (opened group) × HasLast (opened group) (after_batches (batches_of bs) (content_of records) group)
-    each group =
-        let k = replay_found first records bs rise unmarked group in
-        made at first k.0 (replayed_traces bs group) (opened group) (content_of records group) (after_batches (batches_of bs) (content_of records) group) (account_after_all bs no_account group) _ k.1
-        (names_late first first bs no_account (le_refl first) rise (λ g c. tt) group)
-        (λ i e is. places_tell_files at (content_of records) bs older filed group i e is)
-        (λ q s. traces_tell_keys (content_of records) bs (λ g. new_trace) (λ g name. refl) group q s)
-        (has group)
+
+pub opened_queues_tell_places : {E : Type 0} → OpenedQueuesTellPlaces E
+opened_queues_tell_places at first opened records bs rise unmarked older filed has group i some =
+    each_told at first opened records bs rise unmarked older filed has group i some

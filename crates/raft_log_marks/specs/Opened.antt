@@ -94,3 +94,13 @@ OpenedQueuesCanBeCleaned E = (at : E → Option ℕ) (first : ℕ) (opened : Tra
     → ((group i : ℕ) (e : E) → (content_of records group).entry i ≡ Some e → at e ≡ None) → AreFiled at bs
     → ((group : ℕ) → IsMadeOf at first (after_batches (batches_of bs) (content_of records) group) (reach_of_records (records ++ batches_of bs) group) (replayed_traces bs group) (opened group))
     → CanBeCleaned first opened records (after_batches (batches_of bs) (content_of records)) bs
+
+-- And each entry that is there lies where its trace says: in that append file, or in the rewrite queue.
+abbrev pub TellPlaces : {E : Type 0} → (E → Option ℕ) → Traces → Content E → Type 0
+TellPlaces at traces content = (group i : ℕ) → IsSome ((content group).entry i) → file_at at ((content group).entry i) ≡ (traces group).entry_file i
+
+abbrev pub OpenedQueuesTellPlaces : Type 0 → Type 0
+OpenedQueuesTellPlaces E = (at : E → Option ℕ) (first : ℕ) (opened : Traces) (records : List (List (Item E))) (bs : List (Filed E)) → FilesRise first bs → AreUnmarked (batches_of bs)
+    → ((group i : ℕ) (e : E) → (content_of records group).entry i ≡ Some e → at e ≡ None) → AreFiled at bs
+    → ((group : ℕ) → IsMadeOf at first (after_batches (batches_of bs) (content_of records) group) (reach_of_records (records ++ batches_of bs) group) (replayed_traces bs group) (opened group))
+    → TellPlaces at opened (after_batches (batches_of bs) (content_of records))

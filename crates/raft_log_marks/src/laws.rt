@@ -12,7 +12,7 @@ ghost use Rattle.raft_log_marks.specs.Standing.{CleanedQueuesReadAsTheContent};
 ghost use Rattle.raft_log_marks.specs.Standing.{NewQueuesCanBeCleaned, WritesLeaveCleanable};
 ghost use Rattle.raft_log_marks.specs.Standing.{FilesThatGoLeaveCleanable};
 ghost use Rattle.raft_log_marks.specs.Opened.{ReplaysAreCleanable, SettledGroupsKeepNoFile};
-ghost use Rattle.raft_log_marks.specs.Opened.{OpenedQueuesCanBeCleaned};
+ghost use Rattle.raft_log_marks.specs.Opened.{OpenedQueuesCanBeCleaned, OpenedQueuesTellPlaces};
 
 /// Once the marks of a group stand in the rewrite queue and its trace says so, the invariant of the
 /// two queues holds as before.
@@ -49,6 +49,7 @@ pub fn files_before_the_least_may_go()
 pub fn opened_queues_are_cleanable()
     ensures replayed { ReplaysAreCleanable (List ℕ) }
     ensures opened { OpenedQueuesCanBeCleaned (List ℕ) }
+    ensures placed { OpenedQueuesTellPlaces (List ℕ) }
     ensures settled { SettledGroupsKeepNoFile (List ℕ) }
 {}
 

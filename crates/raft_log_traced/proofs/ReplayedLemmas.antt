@@ -27,10 +27,10 @@ use Rattle.raft_log_recovery.specs.Replay.{Placed}
 use Rattle.raft_log_replay.specs.Batches.{content_over, reach_over, records_in}
 use Rattle.raft_log_traces.specs.Alike.{AreAlike, IsAlike}
 use Rattle.raft_log_traces.proofs.LawLemmas.{entries_say_nothing}
-use Rattle.raft_log_marks.specs.Opened.{HasEnds, IsMadeOf, IsSince, reach_of_records}
+use Rattle.raft_log_marks.specs.Opened.{HasEnds, IsMadeOf, IsSince, TellPlaces, reach_of_records}
 use Rattle.raft_log_marks.specs.Standing.{CanBeCleaned}
 use Rattle.raft_log_marks.proofs.FoundLemmas.{replayed_both}
-use Rattle.raft_log_marks.proofs.MadeLemmas.{opened_queues_can_be_cleaned}
+use Rattle.raft_log_marks.proofs.MadeLemmas.{opened_queues_can_be_cleaned, opened_queues_tell_places}
 use Rattle.raft_log_traced.specs.Opened.{AreChanged, HasEntries, HasRest, HasSince}
 use Rattle.raft_log_traced.specs.Traced.{AreOf, file_on, filed_in, lies_in, traces_over, traces_with}
 use Rattle.raft_log_traced.proofs.OpenedLemmas.{alike_rest}
@@ -213,13 +213,12 @@ pub cleaned_by_traces : (first : ℕ) (rewrites appends : List Placed) (groups :
     → AreAlike (traces_over (rewrites ++ appends) (λ group. new_trace)) ts
     → AreChanged (HasSince first) groups ts ss → ((group : ℕ) → is_member (eq_by_cmp nat_cmp) groups group ≡ false → ts group ≡ new_trace)
     → ((group : ℕ) → (content group).there ≡ true → HasEntries (content group) (reach group) (ss group) (us group)) → ((group : ℕ) → (content group).there ≡ false → IsAlike (ss group) (us group))
-    → CanBeCleaned first us (records_in rewrites) content (filed_in appends)
+    → CanBeCleaned first us (records_in rewrites) content (filed_in appends) × TellPlaces lies_in us content
 cleaned_by_traces first rewrites appends groups ts ss us content reach of_rewrite of_append rise unmarked content_is reach_is replayed changed unnamed there gone =
-    subst (λ (c : Content EntryIndex). CanBeCleaned first us (records_in rewrites) c (filed_in appends)) (sym is)
-    (opened_queues_can_be_cleaned lies_in first us (records_in rewrites) (filed_in appends) rise unmarked (lie_nowhere rewrites of_rewrite) (all_filed appends of_append)
-    (λ group.
-    subst (λ (r : ℕ → Option ℕ). IsMadeOf lies_in first (after_batches (batches_of (filed_in appends)) (content_of (records_in rewrites)) group) (r group) (replayed_traces (filed_in appends) group) (us group)) reach_so
-    (subst (λ (c : Content EntryIndex). IsMadeOf lies_in first (c group) (reach group) (replayed_traces (filed_in appends) group) (us group)) is (each group))))
+    subst (λ (c : Content EntryIndex). CanBeCleaned first us (records_in rewrites) c (filed_in appends) × TellPlaces lies_in us c) (sym is) (
+      opened_queues_can_be_cleaned lies_in first us (records_in rewrites) (filed_in appends) rise unmarked (lie_nowhere rewrites of_rewrite) (all_filed appends of_append) (λ group. made group),
+      opened_queues_tell_places lies_in first us (records_in rewrites) (filed_in appends) rise unmarked (lie_nowhere rewrites of_rewrite) (all_filed appends of_append) (λ group. made group),
+    )
   where
     is : content ≡ after_batches (batches_of (filed_in appends)) (content_of (records_in rewrites))
     is = content_is ∙ ap content_of (both_records rewrites appends) ∙ records_compose (records_in rewrites) (batches_of (filed_in appends)) unmarked
@@ -243,3 +242,9 @@ cleaned_by_traces first rewrites appends groups ts ss us content reach of_rewrit
         entries_at : (b : Bool) → (content group).there ≡ b → (((content group).there ≡ true) × HasEntries (content group) (reach group) (ss group) (us group)) ⊎ (((content group).there ≡ false) × IsAlike (ss group) (us group))
         entries_at true e = inl (e, there group e)
         entries_at false e = inr (e, gone group e)
+
+    made : (group : ℕ) → IsMadeOf lies_in first (after_batches (batches_of (filed_in appends)) (content_of (records_in rewrites)) group) (reach_of_records (records_in rewrites ++ batches_of (filed_in appends)) group)
+        (replayed_traces (filed_in appends) group) (us group)
+    made group =
+        subst (λ (r : ℕ → Option ℕ). IsMadeOf lies_in first (after_batches (batches_of (filed_in appends)) (content_of (records_in rewrites)) group) (r group) (replayed_traces (filed_in appends) group) (us group)) reach_so
+        (subst (λ (c : Content EntryIndex). IsMadeOf lies_in first (c group) (reach group) (replayed_traces (filed_in appends) group) (us group)) is (each group))

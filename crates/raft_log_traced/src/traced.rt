@@ -4,6 +4,7 @@ ghost use Rattle.std.specs.Prelude.{◌≡◌, ◌++◌, ℕ, List, None, IfOk, 
 ghost use Rattle.raft_log_covers.specs.Cells.{AreUnmarked};
 ghost use Rattle.raft_log_covers.specs.Kept.{new_trace, traces_after};
 ghost use Rattle.raft_log_covers.specs.Queues.{FilesRise, batches_of};
+ghost use Rattle.raft_log_marks.specs.Opened.{TellPlaces};
 ghost use Rattle.raft_log_marks.specs.Standing.{CanBeCleaned};
 ghost use Rattle.raft_log_memtables.specs.Content.{after_batch, nothing, reach_after_batch};
 ghost use Rattle.raft_log_memtables.specs.MemTable.{batch_items};
@@ -13,7 +14,7 @@ ghost use Rattle.raft_log_recovery.specs.Replay.{Placed};
 ghost use Rattle.raft_log_records.specs.declared.file_id.LogQueue.TheVariants.{Append, Rewrite};
 ghost use Rattle.raft_log_replay.specs.Batches.{content_over, reach_over, records_in};
 ghost use Rattle.raft_log_traced.specs.Places.{items_moved};
-ghost use Rattle.raft_log_traced.specs.Traced.{AreOf, IsReplayedTraced, filed_in};
+ghost use Rattle.raft_log_traced.specs.Traced.{AreOf, IsReplayedTraced, filed_in, lies_in};
 ghost use Rattle.raft_log_traces.specs.Alike.{AreAlike};
 ghost use Rattle.raft_log_traces.specs.GroupTraces.{traces_in};
 
@@ -111,6 +112,8 @@ impl TracedReplay {
         ensures cleanable { (rewrites : List Placed) (appends : List Placed) → IsReplayedTraced self (rewrites ++ appends) → AreOf Rewrite rewrites → AreOf Append appends
             → FilesRise first (filed_in appends) → AreUnmarked (batches_of (filed_in appends))
             → IfOk result (λ log. CanBeCleaned first (traces_in log.traces) (records_in rewrites) (content_in log.tables) (filed_in appends)) }
+        ensures placed { (rewrites : List Placed) (appends : List Placed) → IsReplayedTraced self (rewrites ++ appends) → AreOf Rewrite rewrites → AreOf Append appends
+            → FilesRise first (filed_in appends) → AreUnmarked (batches_of (filed_in appends)) → IfOk result (λ log. TellPlaces lies_in (traces_in log.traces) (content_in log.tables)) }
     {
         let tables = self.replayed.finish();
         let mut traces = self.traces;

@@ -6,7 +6,7 @@ use Rattle.std.proofs.lemmas.Bool.{le-leb, leb-true, le-ltb, lt-ltb}
 use Rattle.raft_log_memtables.specs.Entries.{or_else}
 use Rattle.raft_log_covers.specs.Trace.{greater}
 use Rattle.raft_log_traces.specs.declared.runs.Run.{Run}
-use Rattle.raft_log_traces.specs.Runs.{file_in, file_above, EndsFrom, SecondBy}
+use Rattle.raft_log_traces.specs.Runs.{file_in, file_above, EndsBefore, EndsFrom, EndsIn, SecondBy}
 
 -- ---- one more run at the end
 
@@ -42,6 +42,19 @@ put_last first file old mid new r ef es e h i =
   where
     by_test : (b : Bool) → nat_le first i ≡ b → cond b (Some file) (file_in mid i) ≡ cond b (Some file) (file_in old i)
     by_test true k = refl
+    by_test false k = h i (leb-false first i k)
+
+-- it says the same already
+pub in_last : (first file : ℕ) (old mid : List Run) → EndsIn file mid → EndsBefore first mid → ((i : ℕ) → i < first → file_in mid i ≡ file_in old i)
+    → (i : ℕ) → file_in mid i ≡ cond (nat_le first i) (Some file) (file_in old i)
+in_last first file old mid ends begins h i = by_test (nat_le first i) refl
+  where
+    by_test : (b : Bool) → nat_le first i ≡ b → file_in mid i ≡ cond b (Some file) (file_in old i)
+    by_test true k =
+        let low = begins ends.0 ends.1 ends.2 in
+        ap (λ (rs : List Run). file_in rs i) ends.2 ∙ last_run ends.0 ends.1 i
+        ∙ ap (λ (b : Bool). cond b (Some ends.1.file) (file_in ends.0 i)) (le-leb ends.1.first i (omega (arith, low, leb-true first i k)))
+        ∙ ap (λ (n : ℕ). Some n) ends.3
     by_test false k = h i (leb-false first i k)
 
 -- ---- the first run is hidden by a second one that begins by an index

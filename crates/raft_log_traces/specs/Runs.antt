@@ -20,6 +20,10 @@ EndsFrom first runs = (0 < length runs) × ((before : List Run) (r : Run) → ru
 abbrev pub EndsBefore : ℕ → List Run → Type 0
 EndsBefore first runs = (before : List Run) (r : Run) → runs ≡ before ++ r ∷ [] → r.first < first
 
+-- there is a run, and the last one stands in a file
+abbrev pub EndsIn : ℕ → List Run → Type 0
+EndsIn file runs = (before : List Run) × (r : Run) × (runs ≡ before ++ r ∷ []) × (r.file ≡ file)
+
 -- the second run begins by an index
 abbrev pub SecondBy : ℕ → List Run → Type 0
 SecondBy floor runs = (r : Run) × (second : Run) × (more : List Run) × (runs ≡ r ∷ (second ∷ more)) × (second.first ≤ floor)

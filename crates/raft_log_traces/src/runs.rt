@@ -3,7 +3,7 @@
 ghost use Rattle.std.specs.Prelude.{◌≡◌, ◌≤◌, ◌<◌, ◌∷◌, ℕ, List, Some, if◌then◌else◌, nat_le};
 ghost use Rattle.std.specs.Prelude.{OnOk, OnErr};
 ghost use Rattle.std.specs.Bool.{OnTrue, OnFalse};
-ghost use Rattle.raft_log_traces.specs.Runs.{file_in, EndsFrom, EndsBefore, SecondBy, NoSecondBy};
+ghost use Rattle.raft_log_traces.specs.Runs.{file_in, EndsFrom, EndsBefore, EndsIn, SecondBy, NoSecondBy};
 
 use raft_log_records::FileSeq;
 use std::alloc::AllocError;
@@ -27,7 +27,18 @@ fn ends_from(runs: &[Run], first: u128) -> bool
     }
 }
 
-/// From an index on all entries stand in a file.
+/// Whether the last run stands in a file.
+fn ends_in(runs: &[Run], file: FileSeq) -> bool
+    ensures { OnTrue result (EndsIn file runs.now) }
+{
+    match runs {
+        [.., last] => last.file == file,
+        [] => false,
+    }
+}
+
+/// From an index on all entries stand in a file. A file has one run, however often entries come to
+/// it one behind the other.
 pub(crate) fn put_from(runs: &mut Vec<Run>, first: u128, file: FileSeq) -> Result<(), AllocError>
     ensures ok { OnOk result ((i : ℕ) → file_in runs.new.items i
         ≡ (if nat_le first i then Some file else file_in runs.old.items i)) }
@@ -36,6 +47,9 @@ pub(crate) fn put_from(runs: &mut Vec<Run>, first: u128, file: FileSeq) -> Resul
     runs.reserve(1)?;
     while ends_from(runs, first) {
         runs.pop();
+    }
+    if ends_in(runs, file) {
+        return Ok(());
     }
     runs.push(Run { first, file })?;
     Ok(())

@@ -127,9 +127,12 @@ returns-clause-ok g c =
     let content = c.in_ok-traced.ensures.content all.0 all.1 in
     recovered_as b c.args.config.recovery_mode said at alike d made makes new p all.0 traced append rewrite (λ queue cant. false≢true (c.in_ok-pipes.ensures.refused queue cant)) c.in_ok-pipes.ensures.pipes all.2 content
     (recovered_traced b made new p all.0 traced c.in_ok-pipes.ensures.pipes all.2 content
-    (subst (λ (n : ℕ). MayBeTraced n traced all.2.rewrites all.2.appends) c.file_span-first.ensures.first
-    (c.in_ok-traced.ensures.cleanable all.2.rewrites all.2.appends (subst (λ (l : List Placed). IsReplayedTraced c.in_ok-pipes.machine l) all.2.all_are all.1)
-    (all_queue Rewrite made [] all.2.rewrite.files all.2.rewrites all.2.rewrite.got) (all_queue Append made [] all.2.append.files all.2.appends all.2.append.got))))
+    (subst (λ (n : ℕ). MayBeTraced n traced all.2.rewrites all.2.appends) c.file_span-first.ensures.first (record {
+      cleanable = c.in_ok-traced.ensures.cleanable all.2.rewrites all.2.appends (subst (λ (l : List Placed). IsReplayedTraced c.in_ok-pipes.machine l) all.2.all_are all.1)
+          (all_queue Rewrite made [] all.2.rewrite.files all.2.rewrites all.2.rewrite.got) (all_queue Append made [] all.2.append.files all.2.appends all.2.append.got);
+      placed = c.in_ok-traced.ensures.placed all.2.rewrites all.2.appends (subst (λ (l : List Placed). IsReplayedTraced c.in_ok-pipes.machine l) all.2.all_are all.1)
+          (all_queue Rewrite made [] all.2.rewrite.files all.2.rewrites all.2.rewrite.got) (all_queue Append made [] all.2.append.files all.2.appends all.2.append.got);
+    })))
 
 pub returns-clause-paths : goal.returns-clause-paths
 returns-clause-paths g c =

@@ -1,7 +1,7 @@
 use Rattle.std.proofs.Common.{refl, ◌∙◌, subst, List, arith}
 use Rattle.raft_log_traces.specs.declared.runs.Run.{Run}
-use Rattle.raft_log_traces.specs.Runs.{EndsFrom}
-use Rattle.raft_log_traces.proofs.RunLemmas.{popped, put_last}
+use Rattle.raft_log_traces.specs.Runs.{EndsBefore, EndsFrom, EndsIn}
+use Rattle.raft_log_traces.proofs.RunLemmas.{in_last, popped, put_last}
 use Rattle.raft_log_traces.proofs.runs.put_from.Goals as goal
 
 pub loop-runs-preserved : goal.loop-runs-preserved
@@ -16,3 +16,9 @@ pub returns-clause-ok : goal.returns-clause-ok
 returns-clause-ok c =
     put_last c.args.first c.args.file c.args.runs.now.items c.loop-runs.runs.items c.push.new.self.items (record { first = c.args.first; file = c.args.file })
     refl refl c.in_ok-push.ensures.items c.loop-runs.invariant.below
+
+pub returns-then-ends_in-clause-ok : goal.returns-then-ends_in-clause-ok
+returns-then-ends_in-clause-ok c =
+    let before : EndsBefore c.args.first c.loop-runs.runs.items = subst (λ (rs : List Run). EndsBefore c.args.first rs) c.deref.ensures.value c.loop-runs-test.ensures.no in
+    let last : EndsIn c.args.file c.loop-runs.runs.items = subst (λ (rs : List Run). EndsIn c.args.file rs) c.deref-2.ensures.value c.if-ends_in.ensures in
+    in_last c.args.first c.args.file c.args.runs.now.items c.loop-runs.runs.items last before c.loop-runs.invariant.below

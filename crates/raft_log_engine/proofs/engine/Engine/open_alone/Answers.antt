@@ -54,7 +54,7 @@ invariant_of-result g c =
         none = λ all. refl;
       };
       blocks = λ handle entries kept. absurd (c.new.ensures.none handle entries kept);
-      traces = subst (λ l. IsTraced c.in-Ok.pipes c.in-Ok.traced.traces is.rewrites l) (sym (append-nil is.appends)) is.traces;
+      traces = subst (λ l. IsTraced c.in-Ok.pipes c.in-Ok.traced is.rewrites l) (sym (append-nil is.appends)) is.traces;
     }
 
 pub returns-in-Ok-clause-written : goal.returns-in-Ok-clause-written

@@ -51,7 +51,7 @@ invariant_of-self-in_default g c =
       };
       blocks = λ at bytes is_kept. settled_still c.self.inside.pipes c.sync.new.self held.rewrites (held.synced ++ held.unsynced) ((held.synced ++ held.unsynced) ++ []) c.in_default.ensures.other.same
           (same_files c.self.inside.pipes.append c.sync.new.self.append c.in_default.ensures.call.same.0 c.in_default.ensures.call.same.1) (sym (append-nil (held.synced ++ held.unsynced))) at bytes ((c.self.invariant c.if-self.false).blocks at bytes is_kept);
-      traces = still_traced c.self.inside.pipes c.sync.new.self c.self.inside.traced.traces held.rewrites (held.synced ++ held.unsynced) ((held.synced ++ held.unsynced) ++ []) c.in_default.ensures.call.same
+      traces = still_traced c.self.inside.pipes c.sync.new.self c.self.inside.traced held.rewrites (held.synced ++ held.unsynced) ((held.synced ++ held.unsynced) ++ []) c.in_default.ensures.call.same
           (sym (append-nil (held.synced ++ held.unsynced))) (c.self.invariant c.if-self.false).traces;
     }
 

@@ -122,13 +122,17 @@ invariant_of-self-2 g c =
     let plain : list_any holds_mark c.prepare.new.batch.items ≡ false = ap (list_any holds_mark) same ∙ c.in_ok-len.ensures.plain in
     let done = done_from (g.F.FileSystem.disk) (parts c.self.inside.files c.self.inside.pipes c.self.inside.traced.tables c.self.inside.is_stopped c.self.inside.wrote_unsynced c.self.inside.blocks.reads) c.append_batch.new.files c.append_batch.new.pipes c.apply.new.traced.tables c.args.sync c.prepare.new.batch.items c.append_batch.new.batch.items c.in-Ok.written
     c.entries_block-block.result c.drain-items.result (sym c.in-Ok.ensures.batch) (ap (list_any holds_mark) c.in-Ok.ensures.batch ∙ plain) c.in-Ok.ensures.pipes c.in-Ok.ensures.files c.in-Ok.ensures.other c.in-Ok.ensures.ok c.in-Ok.ensures.stands c.entries_block-block.ensures c.in_default.ensures.ok c.drain-items.ensures.items (ap with_lengths c.drain-items.ensures.places ∙ placed_lengths 0 c.append_batch.new.batch.items) in
-    let noted : IsNoted c.self.inside.traced.traces c.apply.new.traced.traces c.self.inside.traced.tables c.in-Ok.written c.prepare.new.batch.items =
+    let noted : IsNoted c.self.inside.traced c.apply.new.traced c.in-Ok.written c.prepare.new.batch.items =
     record {
       taken = subst (λ l. TakesEach (placed 0 l) (content_in c.self.inside.traced.tables)) (sym same) c.in_ok-len.ensures.taken;
       each = c.in_ok-len.ensures.items;
       plain = plain;
       drained = items_of c.drain-items.result.items.items;
       read = done.read;
+      lengths_are = done.lengths_are;
+      place = done.place;
+      named = done.named;
+      applied = done.applied;
       traces = c.in_default.ensures.traces;
     } in
     λ goes_on. done_blocks (g.F.FileSystem.disk) (parts c.self.inside.files c.self.inside.pipes c.self.inside.traced.tables c.self.inside.is_stopped c.self.inside.wrote_unsynced c.self.inside.blocks.reads) c.append_batch.new.files c.append_batch.new.pipes c.apply.new.traced.tables c.args.sync c.prepare.new.batch.items c.in-Ok.written c.entries_block-block.result c.drain-items.result done c.self.inside.traced.traces c.apply.new.traced.traces c.self.inside.blocks (c.self.invariant c.if-self.false) noted c.skips_sync-self-inside.result c.skips_sync-self-inside.ensures.none

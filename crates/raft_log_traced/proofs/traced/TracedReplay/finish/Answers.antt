@@ -8,6 +8,14 @@ pub returns-clause-cleanable : goal.returns-clause-cleanable
 returns-clause-cleanable c = λ rewrites appends has of_rewrite of_append rise unmarked.
     let tables = c.finish-tables.result in
     let removed = c.in_ok-set_removals.ensures in
-    cleaned_by_traces c.args.first rewrites appends removed.0 (traces_in c.args.self.traces) (traces_in c.set_removals.new.traces) (traces_in c.set_entries.new.traces) (content_in tables) (reach_in tables)
+    (cleaned_by_traces c.args.first rewrites appends removed.0 (traces_in c.args.self.traces) (traces_in c.set_removals.new.traces) (traces_in c.set_entries.new.traces) (content_in tables) (reach_in tables)
     of_rewrite of_append rise unmarked (c.finish-tables.ensures.content (rewrites ++ appends) has.tables) (c.finish-tables.ensures.reach (rewrites ++ appends) has.tables) has.traces
-    removed.1 removed.2 c.in_ok-set_entries.ensures.there c.in_ok-set_entries.ensures.gone
+    removed.1 removed.2 c.in_ok-set_entries.ensures.there c.in_ok-set_entries.ensures.gone).0
+
+pub returns-clause-placed : goal.returns-clause-placed
+returns-clause-placed c = λ rewrites appends has of_rewrite of_append rise unmarked.
+    let tables = c.finish-tables.result in
+    let removed = c.in_ok-set_removals.ensures in
+    (cleaned_by_traces c.args.first rewrites appends removed.0 (traces_in c.args.self.traces) (traces_in c.set_removals.new.traces) (traces_in c.set_entries.new.traces) (content_in tables) (reach_in tables)
+    of_rewrite of_append rise unmarked (c.finish-tables.ensures.content (rewrites ++ appends) has.tables) (c.finish-tables.ensures.reach (rewrites ++ appends) has.tables) has.traces
+    removed.1 removed.2 c.in_ok-set_entries.ensures.there c.in_ok-set_entries.ensures.gone).1
