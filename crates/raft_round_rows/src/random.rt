@@ -98,9 +98,8 @@ fn two_numbers(text: &str) -> Option<(u64, u64)> {
     Some((number_of(first)?, number_of(second)?))
 }
 
-/// So many random rounds from a seed. It is answered how many events happened, how many rounds were
-/// refused, and how many entries the lists have. They are compared behind each round, all else at the
-/// end.
+/// So many random rounds from a seed. It is answered how many events happened and how many rounds were
+/// refused.
 pub fn run_random<R: Threads + Sync>(
     rt: &R,
     alloc: Global,
@@ -112,24 +111,17 @@ pub fn run_random<R: Threads + Sync>(
     };
     let mut dice = Dice { state: seed };
     let mut refused: u64 = 0;
-    let mut lists_differ = false;
     for _ in 0..count {
         let events = line(alloc, &pair.rounds, &mut dice)?;
         if pair.round(rt, events.as_str())?.starts_with("C8") {
             refused = u64::wrapping_add(refused, 1);
         }
-        if !pair.has_same_lists()? {
-            lists_differ = true;
-        }
     }
-    let text = if pair.is_same()? && !lists_differ {
+    let text = if pair.is_same()? {
         "the same"
     } else {
         "differs"
     };
     let events = pair.rounds.history().len();
-    let entries = pair.entries();
-    format!(in alloc;
-        "{count} rounds, {refused} refused, {events} events, {entries} entries: {text}"
-    )
+    format!(in alloc; "{count} rounds, {refused} refused, {events} events: {text}")
 }
