@@ -16,7 +16,9 @@ use Rattle.raft_log_blocks.specs.Held.{IsTabled, ReadsEntries, seen_on}
 use Rattle.raft_log_blocks.specs.Placed.{bytes_on}
 use Rattle.raft_log_blocks.proofs.EntryReads.{disk_reads}
 use Rattle.raft_log_traced.specs.declared.traced.TracedTables.{TracedTables}
-use Rattle.raft_log_cleaner.specs.Cleaning.{CanClean, IsCleaning, IsSynced, LeavesContent, TellPlaces, filed, records_of}
+use Rattle.raft_log_cleaner.specs.Cleaning.{CanClean, IsCleaning, IsSynced, LeavesContent, filed, records_of}
+use Rattle.raft_log_marks.specs.Opened.{TellPlaces}
+use Rattle.raft_log_traced.specs.Traced.{lies_in}
 use Rattle.raft_log_cleaner.proofs.Standing.{fronts_synced, pipe_leaves, reads_as}
 
 pub begins : (d : Disk) (p : DualPipes) (log : TracedTables) (content : Content (List ℕ)) → CanClean d p log content → IsCleaning d p log [] content
@@ -48,7 +50,7 @@ ends d p log items content none synced =
       rewrite = subst (λ (l : Numbered). Holds p.rewrite d s.rewrites l) synced.1 s.rewrite;
       append = s.append;
       tabled = subst (λ (l : Numbered). IsTabled p l s.appends log.tables) whole s.tabled;
-      placed = subst (λ (t : Traces). TellPlaces t (content_in log.tables)) now s.placed;
+      placed = subst (λ (t : Traces). TellPlaces lies_in t (content_in log.tables)) now s.placed;
       cleanable =
           subst (λ (t : Traces). CanBeCleaned (first_of p.append) t (records_of s.rewrites) content (filed s.appends)) now
           (subst (λ (l : Numbered). CanBeCleaned (first_of p.append) s.before (records_of l) content (filed s.appends)) whole s.cleanable);

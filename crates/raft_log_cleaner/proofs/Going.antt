@@ -15,7 +15,9 @@ use Rattle.raft_log_traces.specs.GroupTraces.{traces_in}
 use Rattle.raft_log_purge.specs.Steps.{HasSteps}
 use Rattle.raft_log_purge.proofs.StepLemmas.{has_steps_added}
 use Rattle.raft_log_traced.specs.declared.traced.TracedTables.{TracedTables}
-use Rattle.raft_log_cleaner.specs.Cleaning.{GoesOn, IsCleaning, TellPlaces}
+use Rattle.raft_log_cleaner.specs.Cleaning.{GoesOn, IsCleaning}
+use Rattle.raft_log_marks.specs.Opened.{TellPlaces}
+use Rattle.raft_log_traced.specs.Traced.{lies_in}
 use Rattle.raft_log_cleaner.proofs.Standing.{still_leaves}
 
 -- the cleaning has gone on so far, of the same content, and the append queue is as it was
@@ -75,7 +77,7 @@ added d p log new items more x same steps = record {
     rewrite = s.rewrite;
     append = s.append;
     tabled = subst (λ t. IsTabled p (s.rewrites ++ s.fresh) s.appends t) (sym same) s.tabled;
-    placed = subst (λ t. TellPlaces s.before (content_in t)) (sym same) s.placed;
+    placed = subst (λ t. TellPlaces lies_in s.before (content_in t)) (sym same) s.placed;
     fronts = s.fronts;
     cleanable = s.cleanable;
     steps = has_steps_added content s.before (traces_in log.traces) (traces_in new.traces) [] items more s.steps (steps content s);

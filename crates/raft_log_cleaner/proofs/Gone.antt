@@ -39,7 +39,8 @@ use Rattle.raft_log_blocks.specs.Placed.{bytes_on}
 use Rattle.raft_log_blocks.proofs.EntryReads.{disk_reads}
 use Rattle.raft_log_blocks.proofs.HeldLemmas.{either_lies, same_lies}
 use Rattle.raft_log_traced.specs.declared.traced.TracedTables.{TracedTables}
-use Rattle.raft_log_traced.specs.Traced.{file_at, file_by, file_on}
+use Rattle.raft_log_marks.specs.Opened.{file_at}
+use Rattle.raft_log_traced.specs.Traced.{file_by, file_on, lies_in}
 use Rattle.raft_log_cleaner.specs.Cleaning.{CanClean, LeavesContent, filed, records_of}
 use Rattle.raft_log_cleaner.proofs.Standing.{fronts_synced, pipe_leaves, reads_as}
 
@@ -229,15 +230,15 @@ module _ (d e : Disk) (p q : DualPipes) (log : TracedTables) (content : Content 
 
   -- entries of files that went are read where they lay
   abbrev read_both : (EntryIndex → List ℕ) → EntryIndex → List ℕ
-  read_both read x = cond (has_gone first (file_at (Some x))) (bytes_on d p x) (read x)
+  read_both read x = cond (has_gone first (file_at lies_in (Some x))) (bytes_on d p x) (read x)
 
   both_read : (read : EntryIndex → List ℕ) → ReadsEntries q can.rewrites left read → ReadsEntries p can.rewrites can.appends (read_both read)
   both_read read reads x bytes (inl lies) =
-      let none : file_at (Some x) ≡ None = ap file_by lies.place ∙ ap (λ (y : LogQueue). file_on y lies.handle.id.seq) (lies.queue ∙ p.rewrites) in
+      let none : file_at lies_in (Some x) ≡ None = ap file_by lies.place ∙ ap (λ (y : LogQueue). file_on y lies.handle.id.seq) (lies.queue ∙ p.rewrites) in
       ap (λ (o : Option ℕ). cond (has_gone first o) (bytes_on d p x) (read x)) none ∙ reads x bytes (inl (subst (λ (y : SinglePipe). LiesIn y can.rewrites x bytes) (sym other.same) lies))
   both_read read reads x bytes (inr lies) = by_test (nat_lt lies.file.seq first) refl
     where
-      at_file : file_at (Some x) ≡ Some lies.file.seq
+      at_file : file_at lies_in (Some x) ≡ Some lies.file.seq
       at_file = ap file_by lies.place ∙ ap (λ (y : LogQueue). file_on y lies.handle.id.seq) (lies.queue ∙ p.appends) ∙ ap (λ (n : ℕ). Some n) lies.block.seq
 
       by_test : (t : Bool) → nat_lt lies.file.seq first ≡ t → read_both read x ≡ bytes
@@ -251,9 +252,9 @@ module _ (d e : Disk) (p q : DualPipes) (log : TracedTables) (content : Content 
           ∙ reads x bytes (inr (lies_left p.append q.append d can.appends can.pipes.append call.same (q.appends ∙ sym p.appends) call.rest x bytes lies (ltb-false lies.file.seq first e)))
 
   -- no entry of the tables lies in a file that went
-  seen_left : (group i : ℕ) (x : EntryIndex) → (content_in log.tables group).entry i ≡ Some x → has_gone first (file_at (Some x)) ≡ false
+  seen_left : (group i : ℕ) (x : EntryIndex) → (content_in log.tables group).entry i ≡ Some x → has_gone first (file_at lies_in (Some x)) ≡ false
   seen_left group i x there =
-      let told : file_at (Some x) ≡ (traces_in log.traces group).entry_file i = ap file_at (sym there) ∙ can.placed group i (subst (λ (o : Option EntryIndex). IsSome o) (sym there) refl) in
+      let told : file_at lies_in (Some x) ≡ (traces_in log.traces group).entry_file i = ap (file_at lies_in) (sym there) ∙ can.placed group i (subst (λ (o : Option EntryIndex). IsSome o) (sym there) refl) in
       let lens : option_map (λ (y : EntryIndex). y.entry_len) ((content_in log.tables group).entry i) ≡ option_map length ((content group).entry i) =
       (λ j. ((can.tabled.lengths ∙ ap (content_map length) (reads_as (first_of p.append) (traces_in log.traces) can.rewrites can.appends content can.cleanable)) j group).entry i) in
       let some : IsSome ((content group).entry i) = some_there ((content group).entry i) x (sym lens ∙ ap (option_map (λ (y : EntryIndex). y.entry_len)) there) in

@@ -18,7 +18,8 @@ use Rattle.raft_log_memtables.specs.ContentLaws.{content_map}
 use Rattle.raft_log_memtables.specs.Entries.{or_else, placed_in}
 use Rattle.raft_log_memtables.specs.Moved.{group_moved, moved}
 use Rattle.raft_log_traced.specs.Places.{items_moved, moved_by}
-use Rattle.raft_log_traced.specs.Traced.{file_at, file_on}
+use Rattle.raft_log_marks.specs.Opened.{file_at}
+use Rattle.raft_log_traced.specs.Traced.{file_on, lies_in}
 use Rattle.raft_log_cleaner.proofs.Written.{FileAfter, else_mapped, entry_in, run_mapped, written_at}
 
 -- ---- one item
@@ -128,7 +129,7 @@ content_stays {F} f place items c h = λ j. λ group. record {
 -- ---- where entries lie then
 
 file_stays : {V : Type 0} (place : FileBlockHandle) (o w : Option EntryIndex) (v : Option V) (old new : Option ℕ) → place.id.queue ≡ Rewrite → (g : EntryIndex → V) → option_map g w ≡ v
-    → IsSome o → file_at o ≡ old → FileAfter v old new → file_at (moved o (option_map (placed_in place) w)) ≡ new
+    → IsSome o → file_at lies_in o ≡ old → FileAfter v old new → file_at lies_in (moved o (option_map (placed_in place) w)) ≡ new
 file_stays place None w v old new queue g is some at after = absurd cc
 file_stays {V} place (Some e) None v old new queue g is some at after = at ∙ subst (λ (x : Option V). FileAfter x old new) (sym is) after
 file_stays {V} place (Some e) (Some x) v old new queue g is some at after =
@@ -136,10 +137,10 @@ file_stays {V} place (Some e) (Some x) v old new queue g is some at after =
 
 -- an entry that the items have lies in the rewrite queue, and any other one where it lay
 pub places_told : {V : Type 0} (place : FileBlockHandle) (items : List LogItem) (c : Content EntryIndex) (group i : ℕ) (v : Option V) (old new : Option ℕ) → place.id.queue ≡ Rewrite
-    → (g : EntryIndex → V) → option_map g (written_at (items_of items) group i) ≡ v → IsSome ((c group).entry i) → file_at ((c group).entry i) ≡ old → FileAfter v old new
-    → file_at ((items_moved place items c group).entry i) ≡ new
+    → (g : EntryIndex → V) → option_map g (written_at (items_of items) group i) ≡ v → IsSome ((c group).entry i) → file_at lies_in ((c group).entry i) ≡ old → FileAfter v old new
+    → file_at lies_in ((items_moved place items c group).entry i) ≡ new
 places_told place items c group i v old new queue g is some at after =
-    ap file_at (entry_moved place items c group i) ∙ file_stays place ((c group).entry i) (written_at (items_of items) group i) v old new queue g is some at after
+    ap (file_at lies_in) (entry_moved place items c group i) ∙ file_stays place ((c group).entry i) (written_at (items_of items) group i) v old new queue g is some at after
 
 some_moved : {E : Type 0} (o w : Option E) → IsSome (moved o w) → IsSome o
 some_moved None w some = some

@@ -39,7 +39,9 @@ use Rattle.raft_log_blocks.proofs.HeldLemmas.{more_lies, same_lies}
 use Rattle.raft_log_blocks.proofs.NewEntries.{IsPut, new_lies}
 use Rattle.raft_log_traced.specs.declared.traced.TracedTables.{TracedTables}
 use Rattle.raft_log_traced.specs.Places.{items_moved}
-use Rattle.raft_log_cleaner.specs.Cleaning.{FrontsRead, IsCleaning, IsSynced, LeavesContent, TellPlaces, filed, records_of}
+use Rattle.raft_log_cleaner.specs.Cleaning.{FrontsRead, IsCleaning, IsSynced, LeavesContent, filed, records_of}
+use Rattle.raft_log_marks.specs.Opened.{TellPlaces}
+use Rattle.raft_log_traced.specs.Traced.{lies_in}
 use Rattle.raft_log_cleaner.proofs.Moved.{content_stays, places_told, still_there}
 use Rattle.raft_log_cleaner.proofs.Written.{Rewrites, some_held, steps_rewrite, written_at, written_mapped}
 
@@ -253,12 +255,12 @@ module _ (d e : Disk) (p q : DualPipes) (log new : TracedTables) (items : Batch)
           ∙ ap (content_map length) (sym (reads_more w.handle.id.seq));
     }
 
-    new_placed : TellPlaces (traces_in new.traces) (content_in new.tables)
+    new_placed : TellPlaces lies_in (traces_in new.traces) (content_in new.tables)
     new_placed =
-        subst (λ (c : Content EntryIndex). TellPlaces (traces_in new.traces) c) (sym w.moved)
-        (subst (λ t. TellPlaces (traces_in t) (items_moved w.place w.drained.items.items tables_content)) (sym w.traces) told)
+        subst (λ (c : Content EntryIndex). TellPlaces lies_in (traces_in new.traces) c) (sym w.moved)
+        (subst (λ t. TellPlaces lies_in (traces_in t) (items_moved w.place w.drained.items.items tables_content)) (sym w.traces) told)
       where
-        told : TellPlaces (traces_in log.traces) (items_moved w.place w.drained.items.items tables_content)
+        told : TellPlaces lies_in (traces_in log.traces) (items_moved w.place w.drained.items.items tables_content)
         told group i some =
             let there : IsSome ((tables_content group).entry i) = still_there w.place w.drained.items.items tables_content group i some in
             places_told w.place w.drained.items.items tables_content group i (written_at items group i) ((s.before group).entry_file i) ((traces_in log.traces group).entry_file i)

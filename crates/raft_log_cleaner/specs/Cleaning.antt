@@ -15,7 +15,8 @@ use Rattle.raft_log_marks.specs.Standing.{CanBeCleaned}
 use Rattle.raft_log_purge.specs.Steps.{HasSteps}
 use Rattle.raft_log_blocks.specs.Held.{IsTabled, content_of_batches}
 use Rattle.raft_log_traced.specs.declared.traced.TracedTables.{TracedTables}
-use Rattle.raft_log_traced.specs.Traced.{file_at}
+use Rattle.raft_log_marks.specs.Opened.{TellPlaces}
+use Rattle.raft_log_traced.specs.Traced.{lies_in}
 
 -- the batches of a queue, as the laws of two queues have them: with their files, and without
 abbrev pub filed : Numbered → List (Filed (List ℕ))
@@ -38,10 +39,6 @@ pub record LeavesContent (d : Disk) (p : DualPipes) (content : Content (List ℕ
   pub append : Leaves p.append d appends []
   pub fronts : FrontsRead content rewrites fresh appends
 
--- each entry that is there lies where its trace says: in that append file, or in the rewrite queue
-abbrev pub TellPlaces : Traces → Content EntryIndex → Type 0
-TellPlaces traces content = (group i : ℕ) → IsSome ((content group).entry i) → file_at ((content group).entry i) ≡ (traces group).entry_file i
-
 -- While a log is cleaned, with these items of the batch that goes to the rewrite queue next: that queue has batches on the disk, and
 -- fresh ones since its last sync; all of the append queue is on the disk. The tables have the content of all. By the traces of before
 -- the batch the append queue may be cleaned, and the steps in the batch lead from them to the present ones
@@ -54,7 +51,7 @@ pub record IsCleaning (d : Disk) (p : DualPipes) (log : TracedTables) (items : B
   pub rewrite : Holds p.rewrite d rewrites fresh
   pub append : Holds p.append d appends []
   pub tabled : IsTabled p (rewrites ++ fresh) appends log.tables
-  pub placed : TellPlaces before (content_in log.tables)
+  pub placed : TellPlaces lies_in before (content_in log.tables)
   pub fronts : FrontsRead content rewrites fresh appends
   pub cleanable : CanBeCleaned (first_of p.append) before (records_of (rewrites ++ fresh)) content (filed appends)
   pub steps : HasSteps content before [] (traces_in log.traces) items
@@ -88,7 +85,7 @@ pub record CanClean (d : Disk) (p : DualPipes) (log : TracedTables) (content : C
   pub rewrite : Holds p.rewrite d rewrites []
   pub append : Holds p.append d appends []
   pub tabled : IsTabled p rewrites appends log.tables
-  pub placed : TellPlaces (traces_in log.traces) (content_in log.tables)
+  pub placed : TellPlaces lies_in (traces_in log.traces) (content_in log.tables)
   pub cleanable : CanBeCleaned (first_of p.append) (traces_in log.traces) (records_of rewrites) content (filed appends)
 
 abbrev pub CanCleanSome : Disk → DualPipes → TracedTables → Type 0
