@@ -6,4 +6,6 @@ pub mod Going
 pub mod Marking
 pub mod Steps
 pub mod StepLaws
+pub mod Anew
+pub mod AnewLaws
 pub mod Listeners

@@ -2,6 +2,7 @@
 //! each group.
 #![tactic(auto)]
 
+mod anew;
 mod choice;
 mod due;
 mod going;
@@ -12,6 +13,7 @@ mod reports;
 mod rewriting;
 mod watermarks;
 
+pub use anew::{groups_anew_leave_queues, old_rewrites_leave_queues, stored_groups_are_anew};
 pub use choice::{Choice, GroupFacts, choice_of};
 pub use due::{QueueFiles, Rewritten, files_of, has_garbage, is_large};
 pub use going::{first_kept, let_go};
