@@ -2,4 +2,5 @@
 //! taken word for word gives in its place. Each row is computed in its clauses.
 #![tactic(auto)]
 
+pub mod anew;
 pub mod rows;
