@@ -5,3 +5,4 @@ pub mod AnewLemmas
 pub mod TogetherLemmas
 pub mod StoredLemmas
 pub mod RewrittenAnew
+pub mod ToldLemmas

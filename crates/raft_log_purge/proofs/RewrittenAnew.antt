@@ -1,16 +1,18 @@
 -- Queues may be cleaned as before while the rewrite queue is written anew, and as its old records go.
-use Rattle.std.proofs.Common.{◌≡◌, ℕ, List, [], ◌∷◌, ◌++◌, length, drop, refl, subst}
+use Rattle.std.proofs.Common.{◌≡◌, ◌≤◌, ◌<◌, ℕ, Bool, true, false, None, arith, ltb-true, ltb-false, List, [], ◌∷◌, ◌++◌, length, drop, refl, subst}
+use Rattle.std.specs.Prelude.{nat_lt}
 use Rattle.raft_log_records.specs.Item.{Item}
 use Rattle.raft_log_memtables.specs.Content.{Content}
 use Rattle.raft_log_memtables.specs.Replay.{content_of}
 use Rattle.raft_log_covers.specs.Kept.{Traces, IsKept}
 use Rattle.raft_log_covers.specs.Queues.{Filed}
 use Rattle.raft_log_covers.specs.Written.{all_records}
+use Rattle.raft_log_covers.proofs.FileLemmas.{not_there}
 use Rattle.raft_log_covers.proofs.KeptLemmas.{whole_groups_give_all}
 use Rattle.raft_log_marks.specs.Standing.{CanBeCleaned}
 use Rattle.raft_log_marks.proofs.StandingLemmas.{cleaned_queues_read_as_the_content}
 use Rattle.raft_log_purge.specs.Anew.{stored}
-use Rattle.raft_log_purge.specs.AnewLaws.{StoredGroupsAreAnew, GoneGroupsAreAnew, GroupsAnewLeaveCleanable, AllAnewLeaveCleanable, OldRewritesLeaveCleanable, NewRewritesAreCleanable, QueuesReadAnew, TogetherStays, WrittenGroupsAreNamed}
+use Rattle.raft_log_purge.specs.AnewLaws.{StoredGroupsAreAnew, GoneGroupsAreAnew, BegunGroupsAreAnew, EntriesStandBelow, GroupsAnewLeaveCleanable, AllAnewLeaveCleanable, OldRewritesLeaveCleanable, NewRewritesAreCleanable, QueuesReadAnew, TogetherStays, WrittenGroupsAreNamed}
 use Rattle.raft_log_purge.proofs.AnewLemmas.{fronts_anew_keep, all_anew_keep, anew_written, gone_whole, new_are_whole, names_stay, name_added}
 use Rattle.raft_log_purge.proofs.StoredLemmas.{stored_unmarked, stored_whole}
 use Rattle.raft_log_purge.proofs.TogetherLemmas.{fronts_together, behinds_together, more_together, old_go}
@@ -27,6 +29,21 @@ module _ {E : Type 0} where
 
   pub gone_groups_are_anew : GoneGroupsAreAnew E
   gone_groups_are_anew traces content group gone = record { group = group; changes = []; written = refl; unmarked = refl; whole = gone_whole (traces group) (content group) gone }
+
+  pub begun_groups_are_anew : BegunGroupsAreAnew E
+  begun_groups_are_anew traces content id first middles written = record { written = written; parts = []; holds = refl; groups = tt }
+
+  pub entries_stand_below : EntriesStandBelow E
+  entries_stand_below first traces records content bs group stop can behind i some none =
+      let k = can.cleanable.kept.knows group in (
+        omega (arith, λ (l : i < (traces group).low). not_there {P = ⊥} ((content group).entry i) (k.below i l) some),
+        omega (arith, λ (l : stop ≤ i). not_there {P = ⊥} ((content group).entry i) (by_place l (nat_lt i (traces group).low) refl (nat_lt i (traces group).next) refl) some),
+      )
+    where
+      by_place : stop ≤ i → (a : Bool) → nat_lt i (traces group).low ≡ a → (b : Bool) → nat_lt i (traces group).next ≡ b → (content group).entry i ≡ None
+      by_place l true low b e = (can.cleanable.kept.knows group).below i (ltb-true i (traces group).low low)
+      by_place l false low true e = not_there ((traces group).entry_file i) none (behind i l (ltb-true i (traces group).next e))
+      by_place l false low false e = (can.cleanable.kept.knows group).above i (ltb-false i (traces group).low low) (ltb-false i (traces group).next e)
 
   pub written_groups_are_named : WrittenGroupsAreNamed E
   written_groups_are_named ws w = record { stay = names_stay ws w; added = name_added ws w }

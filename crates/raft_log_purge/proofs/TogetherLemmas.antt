@@ -117,9 +117,11 @@ module _ {E : Type 0} where
   first_of_group : (id : ℕ) (items : List (Item E)) (records : List (List (Item E))) → mark_of items ≡ Some (id, Begin) → Opened id records → Closed (items ∷ records)
   first_of_group id items records e o = ⊎_elim
       (λ (c : Closed o.1). (unended id items o.0 ∷ c.0, ((e, o.2), c.1), ap (λ l. items ∷ l) (o.4 ∙ ap (λ l. o.0 ++ l) c.2)))
-      (λ (r : (last : List (Item E)) × (more : List (List (Item E))) × (mark_of last ≡ Some (id, End)) × Closed more × (o.1 ≡ last ∷ more)).
-      (grouped id items o.0 r.0 ∷ r.3.0, ((e, o.2, r.2), r.3.1),
-      ap (λ l. items ∷ l) (o.4 ∙ ap (λ l. o.0 ++ l) (r.4 ∙ ap (λ l. r.0 ∷ l) r.3.2) ∙ sym (append_assoc o.0 (r.0 ∷ []) (all_records r.3.0)))))
+      (λ (r : (last : List (Item E)) × (more : List (List (Item E))) × (mark_of last ≡ Some (id, End)) × Closed more × (o.1 ≡ last ∷ more)). (
+        grouped id items o.0 r.0 ∷ r.3.0,
+        ((e, o.2, r.2), r.3.1),
+        ap (λ l. items ∷ l) (o.4 ∙ ap (λ l. o.0 ++ l) (r.4 ∙ ap (λ l. r.0 ∷ l) r.3.2) ∙ sym (append_assoc o.0 (r.0 ∷ []) (all_records r.3.0))),
+      ))
       o.3
 
   one_more : (begun : Option ℕ) (items : List (Item E)) (records : List (List (Item E))) (id : ℕ) (status : AtomicGroupStatus) → mark_of items ≡ Some (id, status) → MayStandIn begun id status
@@ -175,9 +177,13 @@ module _ {E : Type 0} where
   split_opened : (id : ℕ) (records : List (List (Item E))) → Opened id records → Split records
   split_opened id records o = ⊎_elim
       (λ (c : Closed o.1). (o.0 ++ [], c.0, strays_of_middles id o.0 [] o.2 tt, c.1, o.4 ∙ ap (λ l. o.0 ++ l) c.2 ∙ ap (λ l. l ++ all_records c.0) (sym (append-nil o.0))))
-      (λ (r : (last : List (Item E)) × (more : List (List (Item E))) × (mark_of last ≡ Some (id, End)) × Closed more × (o.1 ≡ last ∷ more)).
-      (o.0 ++ r.0 ∷ [], r.3.0, strays_of_middles id o.0 (r.0 ∷ []) o.2 (is_stray r.0 id End r.2 tt, tt), r.3.1,
-      o.4 ∙ ap (λ l. o.0 ++ l) (r.4 ∙ ap (λ l. r.0 ∷ l) r.3.2) ∙ sym (append_assoc o.0 (r.0 ∷ []) (all_records r.3.0))))
+      (λ (r : (last : List (Item E)) × (more : List (List (Item E))) × (mark_of last ≡ Some (id, End)) × Closed more × (o.1 ≡ last ∷ more)). (
+        o.0 ++ r.0 ∷ [],
+        r.3.0,
+        strays_of_middles id o.0 (r.0 ∷ []) o.2 (is_stray r.0 id End r.2 tt, tt),
+        r.3.1,
+        o.4 ∙ ap (λ l. o.0 ++ l) (r.4 ∙ ap (λ l. r.0 ∷ l) r.3.2) ∙ sym (append_assoc o.0 (r.0 ∷ []) (all_records r.3.0)),
+      ))
       o.3
 
   split_closed : (records : List (List (Item E))) → Closed records → Split records

@@ -1,5 +1,5 @@
 -- What holds while the rewrite queue is written anew, and when its old records may go.
-use Rattle.std.specs.Prelude.{◌≡◌, ◌⊎◌, ℕ, false, List, [], ◌∷◌, ◌++◌, take, drop}
+use Rattle.std.specs.Prelude.{◌≡◌, ◌⊎◌, ◌≤◌, ◌<◌, ℕ, false, IsSome, None, List, [], ◌∷◌, ◌++◌, take, drop}
 use Rattle.raft_log_records.specs.Item.{Change, Item}
 use Rattle.raft_log_records.specs.Item.Change.{clean}
 use Rattle.raft_log_memtables.specs.Content.{Content}
@@ -8,10 +8,11 @@ use Rattle.raft_log_covers.specs.Joined.{Holds}
 use Rattle.raft_log_covers.specs.Kept.{Traces}
 use Rattle.raft_log_covers.specs.Marks.{of_group}
 use Rattle.raft_log_covers.specs.Queues.{Filed, batches_of}
-use Rattle.raft_log_covers.specs.Written.{Written, AreWritten, all_records}
+use Rattle.raft_log_covers.specs.Written.{Written, IsWritten, AreWritten, all_records}
+use Rattle.raft_log_covers.specs.Written.Written.{unended}
 use Rattle.raft_log_marks.specs.MarkLaws.{IsThere}
 use Rattle.raft_log_marks.specs.Standing.{CanBeCleaned}
-use Rattle.raft_log_purge.specs.Anew.{IsAllStored, stored, IsGroupAnew, AreAnew, Names, StandTogether}
+use Rattle.raft_log_purge.specs.Anew.{IsAllStored, stored, IsGroupAnew, IsAnew, AreAnew, Names, StandTogether}
 
 -- ---- a group
 
@@ -24,6 +25,18 @@ StoredGroupsAreAnew E = (traces : Traces) (content : Content E) (group limit fir
 -- Of a group that isn't there a Clean is.
 abbrev pub GoneGroupsAreAnew : Type 0 → Type 0
 GoneGroupsAreAnew E = (traces : Traces) (content : Content E) (group : ℕ) → IsThere false (content group) → IsGroupAnew content traces (of_group group (clean ∷ []))
+
+-- An atomic group of which the end is still to come has none.
+abbrev pub BegunGroupsAreAnew : Type 0 → Type 0
+BegunGroupsAreAnew E = (traces : Traces) (content : Content E) (id : ℕ) (first : List (Item E)) (middles : List (List (Item E)))
+    → IsWritten (unended id first middles) → IsAnew content traces (unended id first middles)
+
+-- Where each index from one on, up to the end of the list, stands in an append file, the entries that stand in none are those from
+-- the list's first index on, up to before that one.
+abbrev pub EntriesStandBelow : Type 0 → Type 0
+EntriesStandBelow E = (first : ℕ) (traces : Traces) (records : List (List (Item E))) (content : Content E) (bs : List (Filed E)) (group stop : ℕ)
+    → CanBeCleaned first traces records content bs → ((i : ℕ) → stop ≤ i → i < (traces group).next → IsSome ((traces group).entry_file i))
+    → (i : ℕ) → IsSome ((content group).entry i) → (traces group).entry_file i ≡ None → ((traces group).low ≤ i) × (i < stop)
 
 -- ---- while groups are written
 

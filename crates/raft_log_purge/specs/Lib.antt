@@ -8,4 +8,5 @@ pub mod Steps
 pub mod StepLaws
 pub mod Anew
 pub mod AnewLaws
+pub mod Together
 pub mod Listeners

@@ -2,15 +2,19 @@
 
 ghost use Rattle.std.specs.Prelude.{ℕ, List};
 ghost use Rattle.raft_log_purge.specs.AnewLaws.{StoredGroupsAreAnew, GoneGroupsAreAnew};
+ghost use Rattle.raft_log_purge.specs.AnewLaws.{BegunGroupsAreAnew, EntriesStandBelow};
 ghost use Rattle.raft_log_purge.specs.AnewLaws.{GroupsAnewLeaveCleanable, AllAnewLeaveCleanable};
 ghost use Rattle.raft_log_purge.specs.AnewLaws.{OldRewritesLeaveCleanable, NewRewritesAreCleanable};
 ghost use Rattle.raft_log_purge.specs.AnewLaws.{QueuesReadAnew, TogetherStays, WrittenGroupsAreNamed};
 
 /// A `Clean` and all that a group has in the rewrite queue, its entries in chunks and its keys, are
-/// the group written anew. Groups that were written stay so.
+/// the group written anew; of an atomic group without its end nothing counts yet. Those entries are
+/// the ones before the first that stands in an append file. Groups that were written stay so.
 pub fn stored_groups_are_anew()
     ensures stored { StoredGroupsAreAnew (List ℕ) }
     ensures gone { GoneGroupsAreAnew (List ℕ) }
+    ensures begun { BegunGroupsAreAnew (List ℕ) }
+    ensures below { EntriesStandBelow (List ℕ) }
     ensures named { WrittenGroupsAreNamed (List ℕ) }
 {}
 

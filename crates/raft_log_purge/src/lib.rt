@@ -11,6 +11,7 @@ mod listener;
 mod marking;
 mod reports;
 mod rewriting;
+mod together;
 mod watermarks;
 
 pub use anew::{groups_anew_leave_queues, old_rewrites_leave_queues, stored_groups_are_anew};
@@ -22,4 +23,5 @@ pub use listener::{EventListener, least_kept};
 pub use marking::{mark_anyway, mark_group, mark_groups};
 pub use reports::Reports;
 pub use rewriting::{rewrite_entries, rewrite_key};
+pub use together::{Together, records_seen_otherwise_stand_together};
 pub use watermarks::{Watermarks, mark_at, watermarks_of};
