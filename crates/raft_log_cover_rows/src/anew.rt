@@ -5,6 +5,7 @@ ghost use Rattle.raft_log_covers.specs.Marks.{of_group};
 ghost use Rattle.raft_log_records.specs.Item.Change.{entries, clean, compact, put, delete, mark};
 ghost use Rattle.raft_log_records.specs.declared.item.AtomicGroupStatus.TheVariants.{Begin, End};
 ghost use Rattle.raft_log_cover_rows.specs.Rows.{run, one, two, adds, opened, indexes, name};
+ghost use Rattle.raft_log_cover_rows.specs.Rows.{first_anew, last_anew};
 
 /// Entries 1 to 6 were rewritten, and 5 to 10 of the append queue came over them. Those that stand in
 /// the rewrite queue are written anew, 1 to 4.
@@ -46,21 +47,18 @@ pub fn emptied_list_written_anew()
 /// A group is written anew as an atomic group. Before its end is there the old record counts, so
 /// that may not go yet.
 pub fn atomic_group_cut_by_a_crash()
-    ensures begun { indexes 6 (opened (adds 1 4 0 ∷ of_group 1 (mark 8 Begin ∷ clean ∷ compact 1 ∷ entries (run 1 2 0) ∷ []) ∷ []) [])
-        ≡ 1 ∷ 2 ∷ 3 ∷ 4 ∷ [] }
-    ensures ended { indexes 6 (opened (adds 1 4 0 ∷ of_group 1 (mark 8 Begin ∷ clean ∷ compact 1 ∷ entries (run 1 2 0) ∷ []) ∷ two (mark 8 End) (entries (run 3 2 0)) ∷ []) [])
-        ≡ 1 ∷ 2 ∷ 3 ∷ 4 ∷ [] }
-    ensures alone { indexes 6 (opened (of_group 1 (mark 8 Begin ∷ clean ∷ compact 1 ∷ entries (run 1 2 0) ∷ []) ∷ two (mark 8 End) (entries (run 3 2 0)) ∷ []) [])
-        ≡ 1 ∷ 2 ∷ 3 ∷ 4 ∷ [] }
-    ensures gone_too_early { indexes 6 (opened (of_group 1 (mark 8 Begin ∷ clean ∷ compact 1 ∷ entries (run 1 2 0) ∷ []) ∷ []) []) ≡ [] }
+    ensures begun { indexes 6 (opened (adds 1 4 0 ∷ first_anew ∷ []) []) ≡ 1 ∷ 2 ∷ 3 ∷ 4 ∷ [] }
+    ensures ended { indexes 6 (opened (adds 1 4 0 ∷ first_anew ∷ last_anew ∷ []) []) ≡ 1 ∷ 2 ∷ 3 ∷ 4 ∷ [] }
+    ensures alone { indexes 6 (opened (first_anew ∷ last_anew ∷ []) []) ≡ 1 ∷ 2 ∷ 3 ∷ 4 ∷ [] }
+    ensures gone_too_early { indexes 6 (opened (first_anew ∷ []) []) ≡ [] }
 {}
 
 /// An old atomic group of which the first record went counts nothing, and leaves the new record as
 /// it is.
 pub fn old_atomic_group_without_its_begin()
-    ensures both { indexes 6 (opened (two (mark 7 Begin) (entries (run 1 2 0)) ∷ two (mark 7 End) (entries (run 3 2 0)) ∷ of_group 1 (clean ∷ compact 1 ∷ entries (run 1 4 1) ∷ []) ∷ []) [])
+    ensures both { indexes 6 (opened (first_anew ∷ last_anew ∷ of_group 1 (clean ∷ compact 1 ∷ entries (run 1 4 1) ∷ []) ∷ []) [])
         ≡ 1 ∷ 2 ∷ 3 ∷ 4 ∷ [] }
-    ensures first_gone { indexes 6 (opened (two (mark 7 End) (entries (run 3 2 0)) ∷ of_group 1 (clean ∷ compact 1 ∷ entries (run 1 4 1) ∷ []) ∷ []) [])
+    ensures first_gone { indexes 6 (opened (last_anew ∷ of_group 1 (clean ∷ compact 1 ∷ entries (run 1 4 1) ∷ []) ∷ []) [])
         ≡ 1 ∷ 2 ∷ 3 ∷ 4 ∷ [] }
 {}
 
