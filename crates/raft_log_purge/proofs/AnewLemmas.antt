@@ -1,7 +1,7 @@
 -- Groups that are written anew keep the invariant of two queues, and give all of them.
 use Rattle.std.proofs.Common.{◌≡◌, ⊎_elim, inl, ℕ, Bool, true, false, cond, ◌&&◌, ◌||◌, List, [], ◌∷◌, ◌++◌, take, Option, Some, None, refl, sym, ap, ◌∙◌, subst, append_assoc, append-nil}
 use Rattle.std.specs.Prelude.{nat_eq, ◌⊎◌}
-use Rattle.std.proofs.lemmas.Bool.{eqb-true, eq-eqb, or_left, or_right}
+use Rattle.std.proofs.lemmas.Bool.{eqb-true, eq-eqb, or_left, or_right, and_right}
 use Rattle.raft_log_records.specs.Item.{Change, Item}
 use Rattle.raft_log_records.specs.Item.Change.{entries, clean, compact, put, delete, mark}
 use Rattle.raft_log_memtables.specs.Content.{GroupContent, Content, no_group, nothing, after_batch}
@@ -31,10 +31,6 @@ or_none false = refl
 or_both : (a b c : Bool) → ((a || b) || c) ≡ (a || (b || c))
 or_both true b c = refl
 or_both false b c = refl
-
-and_not : (b : Bool) → (b && false) ≡ false
-and_not true = refl
-and_not false = refl
 
 clean_sets : (E : Type 0) (c : Cell) → sets {E = E} clean c ≡ true
 clean_sets E presence = refl
@@ -183,7 +179,7 @@ module _ {E : Type 0} where
           → batch_sets (item ∷ items) group presence ≡ batch_sets (cond b (without_marks items) (item ∷ without_marks items)) group presence
       by_mark true e rest =
           ap (λ (b : Bool). (nat_eq item.group group && b) || batch_sets items group presence) (mark_sets_none item.change e)
-          ∙ ap (λ (b : Bool). b || batch_sets items group presence) (and_not (nat_eq item.group group))
+          ∙ ap (λ (b : Bool). b || batch_sets items group presence) (and_right (nat_eq item.group group) false refl)
           ∙ rest
       by_mark false e rest = ap (λ (b : Bool). (nat_eq item.group group && sets item.change presence) || b) rest
 
