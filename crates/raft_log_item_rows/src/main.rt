@@ -1,5 +1,6 @@
 //! Log files in memory, a row of text each: files that were written by hand, and the items that a
-//! reader of one of them or of their directory answers; and batches, with the holes in them.
+//! reader of one of them or of their directory answers; batches, with the holes in them; and what dumps
+//! and checks tell of files.
 #![tactic(auto)]
 
 mod files;

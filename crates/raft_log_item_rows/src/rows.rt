@@ -2,9 +2,10 @@
 
 use crate::files::{make_all, path_of};
 use crate::holes::holes;
-use crate::reading::{of_directory, of_file};
+use crate::reading::{of_directory, of_file, of_path};
 use raft_log_files::{CrashFiles, Error, FileSystem, MemoryFileSystem};
 use raft_log_records::LogItem;
+use raft_log_tools::consistency_check;
 use raft_rows::{Answer, Rows};
 use std::alloc::Global;
 
@@ -42,6 +43,21 @@ fn unread(alloc: Global, name: &str, words: &[&str]) -> Result<Vec<Result<LogIte
     of_directory(&mut files, alloc, "main")
 }
 
+/// The groups of which the files of a directory have a hole.
+fn checked(alloc: Global, path: &str, words: &[&str]) -> Result<Vec<(u64, u64)>, Error> {
+    let mut files = files_of(alloc, words)?;
+    consistency_check(&mut files, alloc, path)
+}
+
+fn dump_of(
+    alloc: Global,
+    path: &str,
+    words: &[&str],
+) -> Result<Vec<Result<LogItem, Error>>, Error> {
+    let mut files = files_of(alloc, words)?;
+    of_path(&mut files, alloc, path)
+}
+
 impl Rows for Calls {
     fn answer(&mut self, alloc: Global, words: &[&str]) -> Option<Answer> {
         Some(match words {
@@ -50,6 +66,8 @@ impl Rows for Calls {
                 Answer::shown(alloc, &directory(alloc, path, words))
             }
             ["unread", name, words @ ..] => Answer::shown(alloc, &unread(alloc, name, words)),
+            ["dump", path, words @ ..] => Answer::shown(alloc, &dump_of(alloc, path, words)),
+            ["check", path, words @ ..] => Answer::shown(alloc, &checked(alloc, path, words)),
             ["holes", words @ ..] => Answer::shown(alloc, &holes(alloc, words)),
             _ => return None,
         })

@@ -1,0 +1,4 @@
+pub mod PathLemmas
+pub mod ReadLemmas
+pub mod RunLemmas
+pub mod ToldLemmas
