@@ -101,7 +101,8 @@ impl<H: NodeHome> NodeScript<H> {
         self.answered(answer)
     }
 
-    // A piece of a peer's stream comes. Behind one that is no frame the stream begins anew.
+    // A piece of a peer's stream comes. What its frames did is told before why the next one is refused.
+    // Behind one that is no frame the stream begins anew.
     fn feed(&mut self, peer: u64, piece: &[u8]) -> Result<String, AllocError> {
         let Some(node) = &mut self.node else {
             return self.down();
@@ -114,10 +115,15 @@ impl<H: NodeHome> NodeScript<H> {
         if let Some(Fault::Frame(_)) = &fault {
             let _ = node.reset_peer(peer);
         }
-        match fault {
-            Some(fault) => self.refused(fault),
-            None => done_text(self.alloc, outcomes),
+        let Some(fault) = fault else {
+            return done_text(self.alloc, outcomes);
+        };
+        let why = self.refused(fault)?;
+        if outcomes.is_empty() {
+            return Ok(why);
         }
+        let done = done_text(self.alloc, outcomes)?;
+        format!(in self.alloc; "{}; {why}", done.as_str().trim_end())
     }
 
     fn total(&self, group: u64) -> Result<String, AllocError> {
