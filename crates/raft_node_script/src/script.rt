@@ -1,6 +1,6 @@
 //! How far a node's script has come, and what its next line does.
 
-use crate::answers::{done_text, fault_text, unopened_text};
+use crate::answers::{done_text, fault_text, fed_text, unopened_text};
 use crate::home::NodeHome;
 use crate::lines::{NodeLine, ReadNodeLine, read_node_line};
 use raft_conditions::GroupCommand;
@@ -69,14 +69,19 @@ impl<H: NodeHome> NodeScript<H> {
         }
     }
 
-    // Why a call isn't done. A node that has stopped may say more than its number.
+    // A node that has stopped may say more than its number.
+    fn complain_of(&self, fault: &Fault<<H::Storage as GroupStorage>::Fault>) {
+        if let (Fault::Stopped { .. }, Some(node)) = (fault, &self.node) {
+            self.home.complain(node.storage());
+        }
+    }
+
+    // Why a call isn't done.
     fn refused(
         &mut self,
         fault: Fault<<H::Storage as GroupStorage>::Fault>,
     ) -> Result<String, AllocError> {
-        if let (Fault::Stopped { .. }, Some(node)) = (&fault, &self.node) {
-            self.home.complain(node.storage());
-        }
+        self.complain_of(&fault);
         fault_text(self.alloc, fault)
     }
 
@@ -118,12 +123,8 @@ impl<H: NodeHome> NodeScript<H> {
         let Some(fault) = fault else {
             return done_text(self.alloc, outcomes);
         };
-        let why = self.refused(fault)?;
-        if outcomes.is_empty() {
-            return Ok(why);
-        }
-        let done = done_text(self.alloc, outcomes)?;
-        format!(in self.alloc; "{}; {why}", done.as_str().trim_end())
+        self.complain_of(&fault);
+        fed_text(self.alloc, outcomes, fault)
     }
 
     fn total(&self, group: u64) -> Result<String, AllocError> {
