@@ -2,7 +2,9 @@
 //! is short then.
 
 use crate::calls::feed;
-use crate::node::{Answered, Failure, Kept, NotUp, ShelfNode, close_node, new_files, open_node};
+use crate::node::{
+    Answered, Failure, Kept, NotUp, ShelfNode, close_node, crash_node, new_files, open_node,
+};
 use crate::shelf::Shelf;
 use crate::told::{push_refusal, refusal_of, text_of};
 use raft_framed_groups::GroupFrame;
@@ -150,6 +152,17 @@ impl House {
     pub fn close(&mut self, id: u64) -> Option<Told> {
         let node = self.nodes.remove(&id)?;
         Some(self.closed(id, close_node(node)))
+    }
+
+    fn crashed(&mut self, id: u64, files: LogFiles) -> Told {
+        self.files.insert(id, files)?;
+        format!(in self.alloc; "crashed")
+    }
+
+    /// The node's machine stops.
+    pub fn crash(&mut self, id: u64) -> Option<Told> {
+        let node = self.nodes.remove(&id)?;
+        Some(self.crashed(id, crash_node(node)))
     }
 
     // ---- streams

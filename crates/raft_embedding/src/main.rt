@@ -3,7 +3,7 @@
 //!
 //! A row begins with the node. These are the rows; the last word of a call is its moment, in ticks:
 //!
-//! - `1 open`, `1 close`: the node is opened on its files, and closed;
+//! - `1 open`, `1 close`, `1 crash`: the node is opened on its files, and closed, or its machine stops;
 //! - `1 add 7`: it gets a group;
 //! - `1 initialize 7 2 0`, `1 elect 7 0`, `1 heartbeat 7 5`, `1 lost 7 2 5`, `1 propose 7 a x 40 5`,
 //!   `1 learner 7 3 41 5`, `1 snapshot 7 5`, `1 purge 7 3 5`: its calls;

@@ -71,3 +71,8 @@ pub fn open_node(alloc: Global, id: u64, files: LogFiles) -> Result<Opened<Shelf
 pub fn close_node(node: ShelfNode) -> Result<LogFiles, NotClosed<LogFiles>> {
     node.into_storage().into_log().close()
 }
+
+/// The machine of a node stops, which leaves its files as they are.
+pub fn crash_node(node: ShelfNode) -> LogFiles {
+    node.into_storage().into_log().into_files()
+}

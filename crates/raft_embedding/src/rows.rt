@@ -73,6 +73,7 @@ impl House {
         match *words {
             ["open"] => Some(self.open(id)),
             ["close"] => self.close(id),
+            ["crash"] => self.crash(id),
             ["takes", ..] => self.taken(id, words),
             ["loses", peer] => Some(self.lose(id, number(peer))),
             ["resets", peer] => self.reset(id, number(peer)),

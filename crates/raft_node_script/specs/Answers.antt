@@ -1,5 +1,5 @@
 -- The text of what a node answers.
-use Rattle.std.specs.Prelude.{None, ℕ, List, [], ◌++◌, codes, drop, map}
+use Rattle.std.specs.Prelude.{◌≡◌, None, ℕ, List, [], ◌++◌, codes, drop, map}
 use Rattle.std.specs.Fmt.{decimal}
 use Rattle.std.specs.List.{flat_map}
 use Rattle.hex.specs.Hex.{encode_lower}
@@ -53,6 +53,11 @@ abbrev pub fault_text : {F : Type 0} → Fault F → List ℕ
 fault_text (fault.Stopped cause unknown) = stop_text unknown.items
 fault_text (fault.NotLeader leader) = refused_text (shown.NotLeader leader) []
 fault_text why = named_text why
+
+-- two lines on one, the first without its newline
+abbrev pub IsOneLineOf : List ℕ → List ℕ → List ℕ → Type 0
+IsOneLineOf first second text =
+    (line : List ℕ) × (first ≡ line ++ newline) × (text ≡ line ++ codes "; " ++ second)
 
 -- a storage that isn't opened
 abbrev pub unopened_text : HomeRefusal → List ℕ

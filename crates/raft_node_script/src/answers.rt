@@ -1,6 +1,6 @@
 //! The text of what a node answers.
-ghost use Rattle.std.specs.Prelude.{◌≡◌, ◌++◌, IfOk, OnOk, drop, map, string_bytes};
-ghost use Rattle.raft_node_script.specs.Answers.{done_text, fault_text, frame_text, frames_text, named_text, sent_text, stop_text, told_text, unopened_text, without_frames};
+ghost use Rattle.std.specs.Prelude.{◌≡◌, ◌++◌, IfOk, OnOk, [], drop, map, string_bytes};
+ghost use Rattle.raft_node_script.specs.Answers.{IsOneLineOf, done_text, fault_text, frame_text, frames_text, named_text, sent_text, stop_text, told_text, unopened_text, without_frames};
 
 use crate::home::HomeRefusal;
 use itoa::Buffer;
@@ -117,6 +117,39 @@ pub fn fault_text<F: Drop>(alloc: Global, fault: Fault<F>) -> Result<String, All
         Fault::NotLeader { leader } => refused_text(alloc, Refusal::NotLeader { leader }, &[]),
         other => named_text(alloc, &other),
     }
+}
+
+// The first line without its newline, and the second one behind it.
+#[tactic(auto, using(std::proofs::lemmas::Str::Pattern::strip_suffix_char))]
+fn on_one_line(alloc: Global, first: &str, second: &str) -> Result<String, AllocError>
+    ensures { IfOk result (λ text. IsOneLineOf first.now second.now (string_bytes text)) }
+{
+    let Some(line) = first.strip_suffix('\n') else {
+        return Err(AllocError);
+    };
+    let mut text = String::from_str(alloc, line)?;
+    text.push_str("; ")?;
+    text.push_str(second)?;
+    Ok(text)
+}
+
+/// What a piece of a stream did in which a frame is refused: what the frames before it did, if there
+/// are any, and why that one is refused (own).
+pub fn fed_text<F: Drop>(
+    alloc: Global,
+    outcomes: Vec<Outcome>,
+    fault: Fault<F>,
+) -> Result<String, AllocError>
+    ensures alone { outcomes.items ≡ [] → IfOk result (λ text. string_bytes text ≡ fault_text fault) }
+    ensures behind { ¬ (outcomes.items ≡ []) → IfOk result (λ text.
+        IsOneLineOf (done_text outcomes.items) (fault_text fault) (string_bytes text)) }
+{
+    let why = fault_text(alloc, fault)?;
+    if outcomes.is_empty() {
+        return Ok(why);
+    }
+    let done = done_text(alloc, outcomes)?;
+    on_one_line(alloc, done.as_str(), why.as_str())
 }
 
 /// Why a node's storage isn't opened (own).

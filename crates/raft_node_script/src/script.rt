@@ -1,6 +1,6 @@
 //! How far a node's script has come, and what its next line does.
 
-use crate::answers::{done_text, fault_text, unopened_text};
+use crate::answers::{done_text, fault_text, fed_text, unopened_text};
 use crate::home::NodeHome;
 use crate::lines::{NodeLine, ReadNodeLine, read_node_line};
 use raft_conditions::GroupCommand;
@@ -69,14 +69,19 @@ impl<H: NodeHome> NodeScript<H> {
         }
     }
 
-    // Why a call isn't done. A node that has stopped may say more than its number.
+    // A node that has stopped may say more than its number.
+    fn complain_of(&self, fault: &Fault<<H::Storage as GroupStorage>::Fault>) {
+        if let (Fault::Stopped { .. }, Some(node)) = (fault, &self.node) {
+            self.home.complain(node.storage());
+        }
+    }
+
+    // Why a call isn't done.
     fn refused(
         &mut self,
         fault: Fault<<H::Storage as GroupStorage>::Fault>,
     ) -> Result<String, AllocError> {
-        if let (Fault::Stopped { .. }, Some(node)) = (&fault, &self.node) {
-            self.home.complain(node.storage());
-        }
+        self.complain_of(&fault);
         fault_text(self.alloc, fault)
     }
 
@@ -101,7 +106,8 @@ impl<H: NodeHome> NodeScript<H> {
         self.answered(answer)
     }
 
-    // A piece of a peer's stream comes. Behind one that is no frame the stream begins anew.
+    // A piece of a peer's stream comes. What its frames did is told before why the next one is refused.
+    // Behind one that is no frame the stream begins anew.
     fn feed(&mut self, peer: u64, piece: &[u8]) -> Result<String, AllocError> {
         let Some(node) = &mut self.node else {
             return self.down();
@@ -114,10 +120,11 @@ impl<H: NodeHome> NodeScript<H> {
         if let Some(Fault::Frame(_)) = &fault {
             let _ = node.reset_peer(peer);
         }
-        match fault {
-            Some(fault) => self.refused(fault),
-            None => done_text(self.alloc, outcomes),
-        }
+        let Some(fault) = fault else {
+            return done_text(self.alloc, outcomes);
+        };
+        self.complain_of(&fault);
+        fed_text(self.alloc, outcomes, fault)
     }
 
     fn total(&self, group: u64) -> Result<String, AllocError> {
