@@ -19,6 +19,8 @@ use Rattle.raft_log_traced.specs.declared.traced.TracedTables.{TracedTables}
 use Rattle.raft_log_cleaner.specs.Cleaning.{CanClean, IsCleaning, IsSynced, LeavesContent, filed, records_of}
 use Rattle.raft_log_marks.specs.Opened.{TellPlaces}
 use Rattle.raft_log_traced.specs.Traced.{lies_in}
+use Rattle.raft_log_cleaner.specs.Pipes.{KeepsPipes, LeavesPipes}
+use Rattle.raft_log_cleaner.proofs.Keeping.{pipe_left}
 use Rattle.raft_log_cleaner.proofs.Standing.{fronts_synced, pipe_leaves, reads_as}
 
 pub begins : (d : Disk) (p : DualPipes) (log : TracedTables) (content : Content (List ℕ)) → CanClean d p log content → IsCleaning d p log [] content
@@ -70,6 +72,13 @@ can_leave d p log content c = record {
   rewrite = pipe_leaves p.rewrite d c.rewrites [] c.rewrite;
   append = pipe_leaves p.append d c.appends [] c.append;
   fronts = fronts_synced content c.rewrites c.appends (reads_as (first_of p.append) (traces_in log.traces) c.rewrites c.appends content c.cleanable);
+}
+
+-- and so are its pipes
+pub can_be_left : (d e : Disk) (p q : DualPipes) (log : TracedTables) (content : Content (List ℕ)) → CanClean e q log content → KeepsPipes d p e q → LeavesPipes d p e q
+can_be_left d e p q log content c kept = record {
+  append = pipe_left p.append q.append d e c.appends [] c.append kept.append;
+  rewrite = pipe_left p.rewrite q.rewrite d e c.rewrites [] c.rewrite kept.rewrite;
 }
 
 pub ends_ok : {X E : Type 0} (result : Result X E) (d : Disk) (p : DualPipes) (log : TracedTables) (items : Batch) (content : Content (List ℕ)) → items ≡ [] → OnOk result (IsSynced d p log items content) → OnOk result (CanClean d p log content)

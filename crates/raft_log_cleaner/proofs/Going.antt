@@ -19,17 +19,20 @@ use Rattle.raft_log_cleaner.specs.Cleaning.{GoesOn, IsCleaning}
 use Rattle.raft_log_marks.specs.Opened.{TellPlaces}
 use Rattle.raft_log_traced.specs.Traced.{lies_in}
 use Rattle.raft_log_cleaner.proofs.Standing.{still_leaves}
+use Rattle.raft_log_cleaner.specs.Pipes.{KeepsPipes, LeavesPipes}
+use Rattle.raft_log_cleaner.proofs.Keeping.{err_then, ok_then, pipe_left, pipes_then, pipes_then_left, same_pipes}
 
 -- the cleaning has gone on so far, of the same content, and the append queue is as it was
 pub record HasGone (d : Disk) (p : DualPipes) (log : TracedTables) (items : Batch) (e : Disk) (q : DualPipes) (new : TracedTables) (more : Batch) : Type 0 where
   pub on : (content : Content (List ℕ)) → IsCleaning d p log items content → IsCleaning e q new more content
   pub append : IsAsBefore p.append d q.append e
+  pub kept : KeepsPipes d p e q
 
 pub still_as_before : (p : SinglePipe) (d : Disk) → IsAsBefore p d p d
 still_as_before p d = record { same = refl; usable = λ pipe. pipe; holds = λ s u holds. holds; alone = λ alone. alone }
 
 pub not_yet : (d : Disk) (p : DualPipes) (log : TracedTables) (items : Batch) → HasGone d p log items d p log items
-not_yet d p log items = record { on = λ content s. s; append = still_as_before p.append d }
+not_yet d p log items = record { on = λ content s. s; append = still_as_before p.append d; kept = same_pipes d p }
 
 abbrev pub done : {X E : Type 0} → X → Result X E
 done x = Ok x
@@ -49,12 +52,21 @@ pub none_ok : {X E : Type 0} (Q : E → Type 0) (P : Type 0) (result : Result X 
 none_ok Q P (Ok y) h = absurd h
 none_ok Q P (Err y) h = tt
 
+-- a cleaning that goes on leaves what a refusal may leave
+pub still_left : (d e : Disk) (p q : DualPipes) (log : TracedTables) (items : Batch) (content : Content (List ℕ)) → IsCleaning e q log items content → KeepsPipes d p e q → LeavesPipes d p e q
+still_left d e p q log items content s kept = record {
+  append = pipe_left p.append q.append d e s.appends [] s.append kept.append;
+  rewrite = pipe_left p.rewrite q.rewrite d e s.rewrites s.fresh s.rewrite kept.rewrite;
+}
+
 -- a step that changed no file is refused
 pub stopped : {X E : Type 0} (d : Disk) (p : DualPipes) (log new : TracedTables) (items more : Batch) (x : E) → GoesOn d p log items d p new more (failed {X = X} {E = E} x)
 stopped d p log new items more x = record {
   ok = λ content s. tt;
   err = λ content s. still_leaves d p log items content s;
   append = still_as_before p.append d;
+  kept = tt;
+  left = λ content s. still_left d d p p log items content s (same_pipes d p);
 }
 
 pub stopped_by : {X E : Type 0} (Q : E → Type 0) (d : Disk) (p : DualPipes) (log new : TracedTables) (items more : Batch) (result : Result X E) → IsErrAnd result Q → GoesOn d p log items d p new more result
@@ -62,6 +74,8 @@ stopped_by Q d p log new items more result is = record {
   ok = λ content s. none_ok _ _ result is;
   err = λ content s. when_err result (still_leaves d p log items content s);
   append = still_as_before p.append d;
+  kept = none_ok _ _ result is;
+  left = λ content s. when_err result (still_left d d p p log items content s (same_pipes d p));
 }
 
 -- a step that only adds to the batch
@@ -84,6 +98,8 @@ added d p log new items more x same steps = record {
   };
   err = λ content s. tt;
   append = still_as_before p.append d;
+  kept = same_pipes d p;
+  left = λ content s. tt;
 }
 
 module _ {d e f : Disk} {p q r : DualPipes} {log mid new : TracedTables} {items some more : Batch} where
@@ -93,6 +109,8 @@ module _ {d e f : Disk} {p q r : DualPipes} {log mid new : TracedTables} {items 
     ok = λ content s. step.ok content (gone.on content s);
     err = λ content s. step.err content (gone.on content s);
     append = then_as_before p.append q.append r.append d e f gone.append step.append;
+    kept = ok_then result d e f p q r gone.kept step.kept;
+    left = λ content s. err_then result d e f p q r gone.kept (step.left content (gone.on content s));
   }
 
   -- a step more
@@ -100,6 +118,7 @@ module _ {d e f : Disk} {p q r : DualPipes} {log mid new : TracedTables} {items 
   gone_more x gone step = record {
     on = λ content s. step.ok content (gone.on content s);
     append = then_as_before p.append q.append r.append d e f gone.append step.append;
+    kept = pipes_then d e f p q r gone.kept step.kept;
   }
 
   -- it is refused there
@@ -108,8 +127,10 @@ module _ {d e f : Disk} {p q r : DualPipes} {log mid new : TracedTables} {items 
     ok = λ content s. none_ok _ _ result is;
     err = λ content s. when_err result (step.err content (gone.on content s));
     append = then_as_before p.append q.append r.append d e f gone.append step.append;
+    kept = none_ok _ _ result is;
+    left = λ content s. when_err result (pipes_then_left d e f p q r gone.kept (step.left content (gone.on content s)));
   }
 
 -- it has come to its end
 pub gone_done : {X E : Type 0} {d e : Disk} {p q : DualPipes} {log mid : TracedTables} {items some : Batch} (x : X) → HasGone d p log items e q mid some → GoesOn d p log items e q mid some (done {X = X} {E = E} x)
-gone_done x gone = record { ok = gone.on; err = λ content s. tt; append = gone.append }
+gone_done x gone = record { ok = gone.on; err = λ content s. tt; append = gone.append; kept = gone.kept; left = λ content s. tt }

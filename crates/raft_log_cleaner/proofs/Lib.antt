@@ -1,6 +1,7 @@
 mod Written
 mod Moved
 mod Standing
+mod Keeping
 mod Going
 mod Ends
 mod Chunks

@@ -1,3 +1,4 @@
 pub mod Fault
+pub mod Pipes
 pub mod Cleaning
 pub mod Copies

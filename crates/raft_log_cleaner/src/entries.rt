@@ -5,6 +5,7 @@ ghost use Rattle.raft_log_blocks.specs.Blocks.{HasBlock};
 ghost use Rattle.raft_log_blocks.specs.Placed.{bytes_on};
 ghost use Rattle.raft_log_cleaner.specs.Cleaning.{GoesOn, IsCleaningSome};
 ghost use Rattle.raft_log_cleaner.specs.Copies.{AreCopies};
+ghost use Rattle.raft_log_disk.specs.Cause.{RefusesNoMore};
 ghost use Rattle.raft_log_memtables.specs.MemTables.{content_in};
 ghost use Rattle.raft_log_pipes.specs.Pipes.{ArePipes};
 ghost use Rattle.raft_log_records.specs.Batch.{payloads};
@@ -161,7 +162,8 @@ fn rewrite_all_entries<F: FileSystem>(
     before: FileSeq,
 ) -> Result<(), Error>
     requires { IsCleaningSome (F.disk files.old) pipes.old log.old writer.old.batch.items }
-    ensures { GoesOn (F.disk files.old) pipes.old log.old writer.old.batch.items (F.disk files.new) pipes.new log.new writer.new.batch.items result }
+    ensures goes_on { GoesOn (F.disk files.old) pipes.old log.old writer.old.batch.items (F.disk files.new) pipes.new log.new writer.new.batch.items result }
+    ensures later { RefusesNoMore (F.is_bounded files.old) (F.is_bounded files.new) (F.meter files.old) (F.meter files.new) }
 {
     if !is_marked(log, group) {
         return Ok(());
@@ -227,7 +229,8 @@ fn rewrite_all_keys<F: FileSystem>(
     before: FileSeq,
 ) -> Result<(), Error>
     requires { IsCleaningSome (F.disk files.old) pipes.old log.old writer.old.batch.items }
-    ensures { GoesOn (F.disk files.old) pipes.old log.old writer.old.batch.items (F.disk files.new) pipes.new log.new writer.new.batch.items result }
+    ensures goes_on { GoesOn (F.disk files.old) pipes.old log.old writer.old.batch.items (F.disk files.new) pipes.new log.new writer.new.batch.items result }
+    ensures later { RefusesNoMore (F.is_bounded files.old) (F.is_bounded files.new) (F.meter files.old) (F.meter files.new) }
 {
     let Some(trace) = log.traces.get(group) else {
         return Ok(());
@@ -277,7 +280,8 @@ pub(crate) fn mark<F: FileSystem>(
     before: FileSeq,
 ) -> Result<(), Error>
     requires { IsCleaningSome (F.disk files.old) pipes.old log.old writer.old.batch.items }
-    ensures { GoesOn (F.disk files.old) pipes.old log.old writer.old.batch.items (F.disk files.new) pipes.new log.new writer.new.batch.items result }
+    ensures goes_on { GoesOn (F.disk files.old) pipes.old log.old writer.old.batch.items (F.disk files.new) pipes.new log.new writer.new.batch.items result }
+    ensures later { RefusesNoMore (F.is_bounded files.old) (F.is_bounded files.new) (F.meter files.old) (F.meter files.new) }
 {
     add_marks(alloc, files, pipes, log, writer, group, before)?;
     writer.flush_large(files, pipes, log)
@@ -294,7 +298,8 @@ pub(crate) fn rewrite_group<F: FileSystem>(
     before: FileSeq,
 ) -> Result<(), Error>
     requires { IsCleaningSome (F.disk files.old) pipes.old log.old writer.old.batch.items }
-    ensures { GoesOn (F.disk files.old) pipes.old log.old writer.old.batch.items (F.disk files.new) pipes.new log.new writer.new.batch.items result }
+    ensures goes_on { GoesOn (F.disk files.old) pipes.old log.old writer.old.batch.items (F.disk files.new) pipes.new log.new writer.new.batch.items result }
+    ensures later { RefusesNoMore (F.is_bounded files.old) (F.is_bounded files.new) (F.meter files.old) (F.meter files.new) }
 {
     mark(alloc, files, pipes, log, writer, group, before)?;
     rewrite_all_entries(alloc, files, pipes, log, writer, group, before)?;

@@ -1,7 +1,9 @@
 //! When the log is cleaned, and how.
 
-ghost use Rattle.std.specs.Prelude.{◌≡◌, ◌+◌, IfOk};
+ghost use Rattle.std.specs.Prelude.{◌≡◌, ◌+◌, IfOk, OnErr, OnOk};
 ghost use Rattle.raft_log_cleaner.specs.Cleaning.{CanCleanSome, Cleans, Finishes, GoesOn, IsCleaningSome, KeepsFromBarrier};
+ghost use Rattle.raft_log_cleaner.specs.Pipes.{KeepsPipe, KeepsPipes, LeavesPipes};
+ghost use Rattle.raft_log_disk.specs.Cause.{RefusesNoMore};
 ghost use Rattle.raft_log_pipe.specs.Pipe.{first_of};
 
 use crate::entries::{mark, rewrite_group};
@@ -24,7 +26,8 @@ fn rewrite_each<F: FileSystem>(
     before: FileSeq,
 ) -> Result<(), Error>
     requires { IsCleaningSome (F.disk files.old) pipes.old log.old writer.old.batch.items }
-    ensures { GoesOn (F.disk files.old) pipes.old log.old writer.old.batch.items (F.disk files.new) pipes.new log.new writer.new.batch.items result }
+    ensures goes_on { GoesOn (F.disk files.old) pipes.old log.old writer.old.batch.items (F.disk files.new) pipes.new log.new writer.new.batch.items result }
+    ensures later { RefusesNoMore (F.is_bounded files.old) (F.is_bounded files.new) (F.meter files.old) (F.meter files.new) }
 {
     for group in groups {
         rewrite_group(alloc, files, pipes, log, writer, *group, before)?;
@@ -43,7 +46,8 @@ fn mark_each<F: FileSystem>(
     before: FileSeq,
 ) -> Result<(), Error>
     requires { IsCleaningSome (F.disk files.old) pipes.old log.old writer.old.batch.items }
-    ensures { GoesOn (F.disk files.old) pipes.old log.old writer.old.batch.items (F.disk files.new) pipes.new log.new writer.new.batch.items result }
+    ensures goes_on { GoesOn (F.disk files.old) pipes.old log.old writer.old.batch.items (F.disk files.new) pipes.new log.new writer.new.batch.items result }
+    ensures later { RefusesNoMore (F.is_bounded files.old) (F.is_bounded files.new) (F.meter files.old) (F.meter files.new) }
 {
     for group in groups {
         mark(alloc, files, pipes, log, writer, *group, before)?;
@@ -59,7 +63,8 @@ fn finish<F: FileSystem>(
     writer: &mut Writer,
 ) -> Result<(), Error>
     requires { IsCleaningSome (F.disk files.old) pipes.old log.old writer.old.batch.items }
-    ensures { Finishes (F.disk files.old) pipes.old log.old writer.old.batch.items (F.disk files.new) pipes.new log.new result }
+    ensures finishes { Finishes (F.disk files.old) pipes.old log.old writer.old.batch.items (F.disk files.new) pipes.new log.new result }
+    ensures later { RefusesNoMore (F.is_bounded files.old) (F.is_bounded files.new) (F.meter files.old) (F.meter files.new) }
 {
     writer.flush(files, pipes, log)?;
     writer.sync(files, pipes, log)
@@ -75,7 +80,10 @@ fn rewrite_groups<F: FileSystem>(
     before: FileSeq,
 ) -> Result<(), Error>
     requires { CanCleanSome (F.disk files.old) pipes.old log.old }
-    ensures { Cleans (F.disk files.old) pipes.old log.old (F.disk files.new) pipes.new log.new result }
+    ensures cleans { Cleans (F.disk files.old) pipes.old log.old (F.disk files.new) pipes.new log.new result }
+    ensures kept { OnOk result (KeepsPipes (F.disk files.old) pipes.old (F.disk files.new) pipes.new) }
+    ensures left { OnErr result (LeavesPipes (F.disk files.old) pipes.old (F.disk files.new) pipes.new) }
+    ensures later { RefusesNoMore (F.is_bounded files.old) (F.is_bounded files.new) (F.meter files.old) (F.meter files.new) }
 {
     let mut writer = Writer::new(alloc);
     rewrite_each(alloc, files, pipes, log, &mut writer, groups, before)?;
@@ -92,7 +100,10 @@ fn mark_groups<F: FileSystem>(
     before: FileSeq,
 ) -> Result<(), Error>
     requires { CanCleanSome (F.disk files.old) pipes.old log.old }
-    ensures { Cleans (F.disk files.old) pipes.old log.old (F.disk files.new) pipes.new log.new result }
+    ensures cleans { Cleans (F.disk files.old) pipes.old log.old (F.disk files.new) pipes.new log.new result }
+    ensures kept { OnOk result (KeepsPipes (F.disk files.old) pipes.old (F.disk files.new) pipes.new) }
+    ensures left { OnErr result (LeavesPipes (F.disk files.old) pipes.old (F.disk files.new) pipes.new) }
+    ensures later { RefusesNoMore (F.is_bounded files.old) (F.is_bounded files.new) (F.meter files.old) (F.meter files.new) }
 {
     let mut writer = Writer::new(alloc);
     mark_each(alloc, files, pipes, log, &mut writer, groups, before)?;
@@ -119,7 +130,10 @@ fn last_file<F: FileSystem>(
     named: Option<FileSeq>,
 ) -> Result<FileSeq, Error>
     requires { CanCleanSome (F.disk files.old) pipes.old log.now }
-    ensures { Cleans (F.disk files.old) pipes.old log.now (F.disk files.new) pipes.new log.now result }
+    ensures cleans { Cleans (F.disk files.old) pipes.old log.now (F.disk files.new) pipes.new log.now result }
+    ensures kept { OnOk result (KeepsPipes (F.disk files.old) pipes.old (F.disk files.new) pipes.new) }
+    ensures left { OnErr result (LeavesPipes (F.disk files.old) pipes.old (F.disk files.new) pipes.new) }
+    ensures later { RefusesNoMore (F.is_bounded files.old) (F.is_bounded files.new) (F.meter files.old) (F.meter files.new) }
 {
     let (_, active) = pipes.file_span(LogQueue::Append);
     if let Some(file) = named {
@@ -142,7 +156,10 @@ fn clean_groups<F: FileSystem>(
     step: RewriteStep,
 ) -> Result<(), Error>
     requires { CanCleanSome (F.disk files.old) pipes.old log.old }
-    ensures { Cleans (F.disk files.old) pipes.old log.old (F.disk files.new) pipes.new log.new result }
+    ensures cleans { Cleans (F.disk files.old) pipes.old log.old (F.disk files.new) pipes.new log.new result }
+    ensures kept { OnOk result (KeepsPipes (F.disk files.old) pipes.old (F.disk files.new) pipes.new) }
+    ensures left { OnErr result (LeavesPipes (F.disk files.old) pipes.old (F.disk files.new) pipes.new) }
+    ensures later { RefusesNoMore (F.is_bounded files.old) (F.is_bounded files.new) (F.meter files.old) (F.meter files.new) }
 {
     match step {
         RewriteStep::Marks => mark_groups(alloc, files, pipes, log, groups, before),
@@ -189,7 +206,10 @@ impl PurgeManager {
         step: RewriteStep,
     ) -> Result<(), Error>
         requires { CanCleanSome (F.disk files.old) pipes.old log.old }
-        ensures { Cleans (F.disk files.old) pipes.old log.old (F.disk files.new) pipes.new log.new result }
+        ensures cleans { Cleans (F.disk files.old) pipes.old log.old (F.disk files.new) pipes.new log.new result }
+        ensures kept { OnOk result (KeepsPipes (F.disk files.old) pipes.old (F.disk files.new) pipes.new) }
+        ensures left { OnErr result (LeavesPipes (F.disk files.old) pipes.old (F.disk files.new) pipes.new) }
+        ensures later { RefusesNoMore (F.is_bounded files.old) (F.is_bounded files.new) (F.meter files.old) (F.meter files.new) }
     {
         let last = last_file(files, pipes, log, file)?;
         let before = last.saturating_add(1);
@@ -211,6 +231,8 @@ impl PurgeManager {
         ensures cleans { Cleans (F.disk files.old) pipes.old log.now (F.disk files.new) pipes.new log.now result }
         ensures barrier { KeepsFromBarrier barrier pipes.old pipes.new }
         ensures count { IfOk result (λ n. first_of pipes.old.append + n ≡ first_of pipes.new.append) }
+        ensures kept { KeepsPipe pipes.old.rewrite (F.disk files.old) pipes.new.rewrite (F.disk files.new) }
+        ensures later { RefusesNoMore (F.is_bounded files.old) (F.is_bounded files.new) (F.meter files.old) (F.meter files.new) }
     {
         let_go(files, pipes, &log.traces, barrier)
     }

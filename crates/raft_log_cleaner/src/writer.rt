@@ -3,6 +3,7 @@
 ghost use Rattle.std.specs.Prelude.{◌≡◌, ◌+◌, ◌^◌, ◌<◌, [], IfSome, OnOk};
 ghost use Rattle.raft_log_blocks.specs.Held.{IsPlace};
 ghost use Rattle.raft_log_cleaner.specs.Cleaning.{GoesOn, IsCleaningSome, SyncsAll};
+ghost use Rattle.raft_log_disk.specs.Cause.{RefusesNoMore};
 ghost use Rattle.raft_log_records.specs.declared.block.EntriesBlock.{EntriesBlock};
 
 use crate::fault::of_record;
@@ -43,6 +44,7 @@ fn write_batch<F: FileSystem>(
     ensures goes_on { GoesOn (F.disk files.old) pipes.old log.old batch.old.items (F.disk files.new) pipes.new log.new batch.new.items result }
     ensures emptied { OnOk result (batch.new.items ≡ []) }
     ensures traces { log.new.traces ≡ log.old.traces }
+    ensures later { RefusesNoMore (F.is_bounded files.old) (F.is_bounded files.new) (F.meter files.old) (F.meter files.new) }
 {
     let len = match batch.finish_populate() {
         Ok(len) => len,
@@ -90,6 +92,7 @@ impl Writer {
         ensures goes_on { GoesOn (F.disk files.old) pipes.old log.now self.old.batch.items (F.disk files.new) pipes.new log.now self.new.batch.items result }
         ensures batch { self.new.batch ≡ self.old.batch }
         ensures synced { SyncsAll (F.disk files.old) pipes.old log.now self.old.batch.items (F.disk files.new) pipes.new result }
+        ensures later { RefusesNoMore (F.is_bounded files.old) (F.is_bounded files.new) (F.meter files.old) (F.meter files.new) }
     {
         pipes.sync(files, LogQueue::Rewrite)?;
         self.unsynced = 0;
@@ -108,6 +111,7 @@ impl Writer {
         ensures goes_on { GoesOn (F.disk files.old) pipes.old log.old self.old.batch.items (F.disk files.new) pipes.new log.new self.new.batch.items result }
         ensures emptied { OnOk result (self.new.batch.items ≡ []) }
         ensures traces { log.new.traces ≡ log.old.traces }
+        ensures later { RefusesNoMore (F.is_bounded files.old) (F.is_bounded files.new) (F.meter files.old) (F.meter files.new) }
     {
         if self.batch.is_empty() {
             return Ok(());
@@ -130,6 +134,7 @@ impl Writer {
         requires { IsCleaningSome (F.disk files.old) pipes.old log.old self.old.batch.items }
         ensures goes_on { GoesOn (F.disk files.old) pipes.old log.old self.old.batch.items (F.disk files.new) pipes.new log.new self.new.batch.items result }
         ensures traces { log.new.traces ≡ log.old.traces }
+        ensures later { RefusesNoMore (F.is_bounded files.old) (F.is_bounded files.new) (F.meter files.old) (F.meter files.new) }
     {
         if self.batch.approximate_size() < MOST_BATCH_BYTES {
             return Ok(());

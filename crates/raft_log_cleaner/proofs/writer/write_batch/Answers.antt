@@ -13,8 +13,10 @@ use Rattle.raft_log_memtables.specs.MemTables.{content_in}
 use Rattle.raft_log_recovery.proofs.LengthLemmas.{placed_lengths}
 use Rattle.raft_log_traced.specs.Places.{items_moved}
 use Rattle.raft_log_blocks.proofs.NewEntries.{block_fits}
+use Rattle.raft_log_disk.proofs.RefusalLemmas.{no_more_same}
 use Rattle.raft_log_cleaner.specs.Cleaning.{GoesOn, IsCleaning}
 use Rattle.raft_log_cleaner.proofs.Going.{none_ok, stopped, when_err}
+use Rattle.raft_log_cleaner.proofs.Keeping.{pipe_as_before, pipe_left, pipe_refused}
 use Rattle.raft_log_cleaner.proofs.Standing as standing
 use Rattle.raft_log_cleaner.proofs.writer.write_batch.Goals as goal
 
@@ -30,6 +32,9 @@ pub returns-in-Err-clause-goes_on : goal.returns-in-Err-clause-goes_on
 returns-in-Err-clause-goes_on g c =
     stopped (g.F.FileSystem.disk c.args.files.now) c.args.pipes.now c.args.log.now c.args.log.now c.args.batch.now.items c.finish_populate.new.self.items c.of_record.result
 
+pub returns-in-Err-clause-later : goal.returns-in-Err-clause-later
+returns-in-Err-clause-later g c = no_more_same _ _
+
 pub append-requires-clause-populated : goal.append-requires-clause-populated
 append-requires-clause-populated g c κs within = (None, ap (λ (b : batch.Batch). b.writing) c.in-Ok.ensures.ok ∙ populated_written c.args.batch.now.items c.requires.some)
 
@@ -40,12 +45,19 @@ pub returns-in_err-written-clause-goes_on : goal.returns-in_err-written-clause-g
 returns-in_err-written-clause-goes_on g c =
     let d = g.F.FileSystem.disk c.args.files.now in
     let e = g.F.FileSystem.disk c.append.new.files in
+    let p = c.args.pipes.now in
+    let q = c.append.new.self in
     let same : c.finish_populate.new.self.items ≡ c.args.batch.now.items = ap (λ (b : batch.Batch). b.items) c.in-Ok.ensures.ok ∙ populated_items c.args.batch.now.items in
     subst (λ (l : Batch). GoesOn d c.args.pipes.now c.args.log.now l e c.append.new.self c.args.log.now c.append.new.batch.items c.from_residual.result) same (record {
       ok = λ content s. none_ok _ _ c.from_residual.result c.from_residual.ensures.1;
       err = λ content s. when_err c.from_residual.result
           (standing.refused d e c.args.pipes.now c.append.new.self c.args.log.now c.args.log.now c.finish_populate.new.self.items content s (c.in_err-written.ensures.call.err s.rewrites s.fresh s.rewrite) c.in_err-written.ensures.other);
       append = c.in_err-written.ensures.other;
+      kept = none_ok _ _ c.from_residual.result c.from_residual.ensures.1;
+      left = λ content s. when_err c.from_residual.result (record {
+        append = pipe_left p.append q.append d e s.appends [] (c.in_err-written.ensures.other.holds s.appends [] s.append) (pipe_as_before p.append q.append d e c.in_err-written.ensures.other);
+        rewrite = pipe_refused p.rewrite q.rewrite d e s.rewrites s.fresh s.rewrite c.in_err-written.ensures.set.1 c.in_err-written.ensures.call.paths c.in_err-written.ensures.call.nearly c.in_err-written.ensures.call.torn;
+      });
     })
 
 pub returns-clause-goes_on : goal.returns-clause-goes_on
@@ -82,4 +94,9 @@ returns-clause-goes_on g c =
           }));
       err = λ content s. tt;
       append = c.in_ok-written.ensures.other;
+      kept = record {
+        append = pipe_as_before p.append q.append d e c.in_ok-written.ensures.other;
+        rewrite = record { set = c.in_ok-written.ensures.set.1; paths = call.paths; alone = call.alone };
+      };
+      left = λ content s. tt;
     }

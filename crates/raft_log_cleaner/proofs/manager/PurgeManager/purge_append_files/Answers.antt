@@ -3,6 +3,7 @@ use Rattle.std.proofs.Common.{◌≡◌, ℕ, ◌+◌, sym, ◌∙◌}
 use Rattle.std.specs.Prelude.{Result, Ok, Err, IfOk}
 use Rattle.raft_log_cleaner.proofs.Going.{when_err, when_ok}
 use Rattle.raft_log_cleaner.proofs.Gone.{counted, files_gone, none_from, rest_leaves}
+use Rattle.raft_log_cleaner.proofs.Keeping.{pipe_as_before}
 use Rattle.raft_log_cleaner.proofs.manager.PurgeManager.purge_append_files.Goals as goal
 
 pub let_go-requires-after_bounds : goal.let_go-requires-after_bounds
@@ -25,3 +26,7 @@ returns-clause-barrier g c =
 
 pub returns-clause-count : goal.returns-clause-count
 returns-clause-count g c = counted c.let_go.result c.let_go.ensures.call.0 c.args.pipes.now.append c.let_go.new.pipes.append c.let_go.ensures.call.2.ok
+
+pub returns-clause-kept : goal.returns-clause-kept
+returns-clause-kept g c =
+    pipe_as_before c.args.pipes.now.rewrite c.let_go.new.pipes.rewrite (g.F.FileSystem.disk c.args.files.now) (g.F.FileSystem.disk c.let_go.new.files) c.let_go.ensures.other

@@ -1,5 +1,6 @@
 -- A batch that is written, and a sync behind it.
 use Rattle.std.proofs.Common.{◌≡◌, ap, ◌∙◌}
+use Rattle.raft_log_disk.proofs.RefusalLemmas.{no_more_then}
 use Rattle.raft_log_cleaner.proofs.Going.{gone_more, gone_refused, gone_then, not_yet, when_ok}
 use Rattle.raft_log_cleaner.proofs.writer.Writer.flush.Goals as goal
 
@@ -19,3 +20,6 @@ returns-then-self-ge-MOST_UNSYNCED_BYTES-clause-goes_on g c =
 
 pub returns-then-self-ge-MOST_UNSYNCED_BYTES-clause-emptied : goal.returns-then-self-ge-MOST_UNSYNCED_BYTES-clause-emptied
 returns-then-self-ge-MOST_UNSYNCED_BYTES-clause-emptied g c = when_ok c.sync.result (ap (λ b. b.items) c.sync.ensures.batch ∙ c.in_ok-len.ensures.emptied)
+
+pub returns-then-self-ge-MOST_UNSYNCED_BYTES-clause-later : goal.returns-then-self-ge-MOST_UNSYNCED_BYTES-clause-later
+returns-then-self-ge-MOST_UNSYNCED_BYTES-clause-later g c = no_more_then c.in_ok-len.ensures.later c.sync.ensures.later

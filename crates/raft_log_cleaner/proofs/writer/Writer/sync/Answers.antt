@@ -1,6 +1,7 @@
 -- A sync of the rewrite queue.
-use Rattle.std.proofs.Common.{◌≡◌, sym, ap}
+use Rattle.std.proofs.Common.{◌≡◌, [], sym, ap, ◌∙◌}
 use Rattle.raft_log_cleaner.proofs.Going.{none_ok, when_err}
+use Rattle.raft_log_cleaner.proofs.Keeping.{pipe_as_before, pipe_left, pipe_on}
 use Rattle.raft_log_cleaner.proofs.Standing as standing
 use Rattle.raft_log_cleaner.proofs.writer.Writer.sync.Goals as goal
 
@@ -8,18 +9,29 @@ pub returns-in_err-sync-clause-goes_on : goal.returns-in_err-sync-clause-goes_on
 returns-in_err-sync-clause-goes_on g c =
     let d = g.F.FileSystem.disk c.args.files.now in
     let e = g.F.FileSystem.disk c.sync.new.files in
+    let p = c.args.pipes.now in
+    let q = c.sync.new.self in
     let other = c.in_err-sync.ensures.other in
+    let call = c.in_err-sync.ensures.call in
     record {
       ok = λ content s. none_ok _ _ c.from_residual.result c.from_residual.ensures.1;
       err = λ content s. when_err c.from_residual.result
           (standing.sync_refused d e c.args.pipes.now c.sync.new.self c.args.log.now c.args.self.now.batch.items content s other (c.in_err-sync.ensures.call.err s.rewrites s.fresh s.rewrite));
       append = other;
+      kept = none_ok _ _ c.from_residual.result c.from_residual.ensures.1;
+      left = λ content s. when_err c.from_residual.result (record {
+        append = pipe_left p.append q.append d e s.appends [] (other.holds s.appends [] s.append) (pipe_as_before p.append q.append d e other);
+        rewrite = pipe_left p.rewrite q.rewrite d e s.rewrites s.fresh (call.err s.rewrites s.fresh s.rewrite)
+            (pipe_on p.rewrite q.rewrite d e (call.same.0, call.same.1, q.rewrites ∙ sym p.rewrites) c.in_err-sync.ensures.set.1 call.paths call.names);
+      });
     }
 
 pub returns-clause-goes_on : goal.returns-clause-goes_on
 returns-clause-goes_on g c =
     let d = g.F.FileSystem.disk c.args.files.now in
     let e = g.F.FileSystem.disk c.sync.new.files in
+    let p = c.args.pipes.now in
+    let q = c.sync.new.self in
     let other = c.in_ok-sync.ensures.other in
     let call = c.in_ok-sync.ensures.call in
     record {
@@ -27,6 +39,11 @@ returns-clause-goes_on g c =
           (standing.all_synced d e c.args.pipes.now c.sync.new.self c.args.log.now c.args.self.now.batch.items content s other call.pipe call.same (call.ok s.rewrites s.fresh s.rewrite)).0;
       err = λ content s. tt;
       append = other;
+      kept = record {
+        append = pipe_as_before p.append q.append d e other;
+        rewrite = pipe_on p.rewrite q.rewrite d e (call.same.0, call.same.1, q.rewrites ∙ sym p.rewrites) c.in_ok-sync.ensures.set.1 call.paths call.names;
+      };
+      left = λ content s. tt;
     }
 
 pub returns-clause-synced : goal.returns-clause-synced
