@@ -1,6 +1,6 @@
 -- The files that are left of a pipe of which the first ones went are the last ones of its queue still.
-use Rattle.std.proofs.Common.{◌≡◌, ◌⊎◌, inl, inr, ⊎_elim, ℕ, zero, suc, ◌+◌, ◌-◌, ◌<◌, ◌≤◌, Bool, true, false, cond, List, [], ◌∷◌, ◌++◌, length, get_or, drop, map, Option, Some, None, refl, sym, ap, subst, ◌∙◌, arith, length-drop}
-use Rattle.std.specs.Prelude.{Result, Ok, Err, OnOk, OnErr, String, Vec}
+use Rattle.std.proofs.Common.{◌≡◌, ◌⊎◌, inl, inr, ⊎_elim, ℕ, zero, suc, ◌+◌, ◌-◌, ◌<◌, ◌≤◌, Bool, true, false, cond, List, [], ◌∷◌, ◌++◌, length, get_or, drop, Option, Some, None, refl, sym, ap, subst, ◌∙◌, arith}
+use Rattle.std.specs.Prelude.{Vec}
 use Rattle.std.specs.List.{AllByRecursion}
 use Rattle.std.specs.String.{string_bytes}
 use Rattle.std.specs.declared.alloc.Global.{Global}
@@ -10,10 +10,10 @@ use Rattle.raft_log_records.specs.declared.file_id.FileId.{FileId}
 use Rattle.raft_log_disk.specs.Text.{Text, same_text}
 use Rattle.raft_log_disk.specs.Disk.{Disk, IsIn, IsNamed, are_named, fd_of}
 use Rattle.raft_log_disk.proofs.NamedLemmas.{named_first}
-use Rattle.raft_log_files.specs.FileName.{IsFileSeq, log_file_name}
+use Rattle.raft_log_files.specs.FileName.{log_file_name}
 use Rattle.raft_log_pipe.specs.declared.file.File.{File}
 use Rattle.raft_log_pipe.specs.declared.pipe.SinglePipe.{SinglePipe}
-use Rattle.raft_log_pipe.specs.Alone.{AreLast, IsAlone, Names, StandsAt, directories_of_pipe, path_in}
+use Rattle.raft_log_pipe.specs.Alone.{IsAlone, Names, StandsAt, directories_of_pipe, path_in}
 use Rattle.raft_log_pipe.specs.Blocks.{files_of}
 use Rattle.raft_log_pipe.specs.Pipe.{AreConsecutive, Holds, IsPipe, first_of, id_of}
 use Rattle.raft_log_pipe.specs.Purging.{AreGone, AreLastOf, HoldsRest, IsGone, KeepsFrom, StandsFrom, from_file}
