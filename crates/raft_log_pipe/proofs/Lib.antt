@@ -14,3 +14,4 @@ pub mod OthersLemmas
 pub mod TakenLemmas
 pub mod LostLemmas
 pub mod CausedLemmas
+pub mod RestLemmas

@@ -65,7 +65,7 @@ lost_before p older f d e n seq pipe is keeps le (g, there, lt, gone) = (g, befo
 pub lost_more : (p : SinglePipe) (d : Disk) (a b : ℕ) → a ≤ b → HasLost p d a → HasLost p d b
 lost_more p d a b le (f, there, lt, gone) = (f, there, omega (arith, lt, le), gone)
 
-dir_at : (dirs : List (String Global)) (place : ℕ) → place < length dirs → (dir : String Global) × (dir ≡ get_or dirs place dir)
+pub dir_at : (dirs : List (String Global)) (place : ℕ) → place < length dirs → (dir : String Global) × (dir ≡ get_or dirs place dir)
 dir_at [] place within = absurd (omega (arith, within))
 dir_at (first ∷ dirs) place within = (get_or (first ∷ dirs) place first, get_or_default (first ∷ dirs) place first (get_or (first ∷ dirs) place first) within)
 

@@ -1,5 +1,5 @@
 -- Files of a pipe that go, the first ones first.
-use Rattle.std.specs.Prelude.{◌≡◌, ◌⊎◌, ℕ, ◌<◌, List, [], ◌∷◌, ◌++◌, drop, nat_lt, Some, None, if◌then◌else◌, String}
+use Rattle.std.specs.Prelude.{◌≡◌, ◌⊎◌, ℕ, ◌<◌, ◌≤◌, List, [], ◌∷◌, ◌++◌, drop, nat_lt, Some, None, if◌then◌else◌, String}
 use Rattle.std.specs.List.{slice_index_or}
 use Rattle.std.specs.String.{string_bytes}
 use Rattle.std.specs.declared.alloc.Global.{Global}
@@ -9,6 +9,7 @@ use Rattle.raft_log_disk.specs.Name.{log_file_of}
 use Rattle.raft_log_files.specs.FileName.{log_file_name}
 use Rattle.raft_log_pipe.specs.declared.file.File.{File}
 use Rattle.raft_log_pipe.specs.declared.pipe.SinglePipe.{SinglePipe}
+use Rattle.raft_log_pipe.specs.Alone.{IsAlone}
 use Rattle.raft_log_pipe.specs.Pipe.{Numbered, id_of, first_of, Holds}
 
 -- the batches of the files from a number on
@@ -38,3 +39,14 @@ IsGone p f e = (dir : String Global) → dir ≡ slice_index_or p.paths.items f.
 -- each file of before is still one of the pipe, or its path is gone
 abbrev pub AreGone : SinglePipe → SinglePipe → Disk → Type 0
 AreGone old new e = (f : File) → IsIn f old.older.items → IsIn f new.older.items ⊎ IsGone old f e
+
+-- Behind a refusal the file that was to go may stand there still, though the pipe doesn't have it any more. A pipe that has all that stand
+-- there begins with a file of before, at the latest with the first one of the pipe: its files are the last ones of the queue, and it holds
+-- their batches
+pub record StandsFrom (old : SinglePipe) (d : Disk) (new : SinglePipe) (e : Disk) : Type 0 where
+  pub pipe : SinglePipe
+  pub queue : pipe.queue ≡ old.queue
+  pub paths : pipe.paths ≡ old.paths
+  pub first : (first_of old ≤ first_of pipe) × (first_of pipe ≤ first_of new)
+  pub alone : IsAlone old d → IsAlone pipe e
+  pub holds : HoldsRest old d pipe e

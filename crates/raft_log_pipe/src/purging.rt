@@ -8,8 +8,9 @@ ghost use Rattle.raft_log_pipe.specs.declared.file.File.{File};
 ghost use Rattle.raft_log_pipe.specs.Alone.{IsAlone};
 ghost use Rattle.raft_log_pipe.specs.Blocks.{IsOutOfSpan};
 ghost use Rattle.raft_log_pipe.specs.Caused.{IsCaused, IsPurgeFault};
+ghost use Rattle.raft_log_pipe.specs.Kept.{KeepsSettings};
 ghost use Rattle.raft_log_pipe.specs.Pipe.{IsPipe, first_of};
-ghost use Rattle.raft_log_pipe.specs.Purging.{AreGone, AreLastOf, HoldsRest, KeepsFrom};
+ghost use Rattle.raft_log_pipe.specs.Purging.{AreGone, AreLastOf, HoldsRest, KeepsFrom, StandsFrom};
 ghost use Rattle.raft_log_pipe.specs.Taken.{HasLost, IsOkOrMemory, IsPurgeTaken, IsTakenBy};
 
 use crate::pipe::SinglePipe;
@@ -28,6 +29,8 @@ impl SinglePipe {
         ensures err { OnErr result ((length self.new.older.items + 1 ≡ length self.old.older.items) ⊎ (length self.new.older.items ≡ length self.old.older.items)) }
         ensures rest { AreLastOf self.old.older.items self.new.older.items }
         ensures gone { OnOk result (AreGone self.old self.new (F.disk files.new)) }
+        ensures stays { OnErr result ((F.disk files.new ≡ F.disk files.old) ⊎ AreGone self.old self.new (F.disk files.new)) }
+        ensures set { KeepsSettings self.old self.new }
         ensures told { IsErrOf result (Other NumberOutOfSpan) → ⊥ }
         ensures holds { HoldsRest self.old (F.disk files.old) self.new (F.disk files.new) }
         ensures keeps { KeepsFrom self.old.queue (first_of self.new) (F.disk files.old) (F.disk files.new) }
@@ -51,6 +54,10 @@ impl SinglePipe {
         requires pipe { IsPipe self.old (F.disk files.old) }
         ensures pipe { IsPipe self.new (F.disk files.new) }
         ensures same { (self.new.active ≡ self.old.active) × (self.new.queue ≡ self.old.queue) }
+        ensures paths { self.new.paths ≡ self.old.paths }
+        ensures set { KeepsSettings self.old self.new }
+        ensures alone { OnOk result (IsAlone self.old (F.disk files.old) → IsAlone self.new (F.disk files.new)) }
+        ensures stands { OnErr result (StandsFrom self.old (F.disk files.old) self.new (F.disk files.new)) }
         ensures ok { IfOk result (λ n. (first_of self.new ≡ seq) × (first_of self.old + n ≡ seq)) }
         ensures out { IsOutOfSpan self.old seq → IsErrOf result (Other NumberOutOfSpan) × (self.new ≡ self.old) × (F.disk files.new ≡ F.disk files.old) }
         ensures within { IsErrOf result (Other NumberOutOfSpan) → IsOutOfSpan self.old seq }

@@ -15,7 +15,7 @@ use Rattle.raft_log_pipe.specs.Appending.{Appends, LeavesAppended, Stands}
 use Rattle.raft_log_pipe.specs.Blocks.{AreOfBlock, AreOfFile, IsBlockFault, IsOutOfSpan, KeepsFiles}
 use Rattle.raft_log_pipe.specs.Pipe.{Holds, IsPipe, Leaves, Numbered, first_of}
 use Rattle.raft_log_pipe.specs.Torn.{TearsAtEnd}
-use Rattle.raft_log_pipe.specs.Purging.{AreGone, AreLastOf, HoldsRest, KeepsFrom}
+use Rattle.raft_log_pipe.specs.Purging.{AreGone, AreLastOf, HoldsRest, KeepsFrom, StandsFrom}
 
 -- the bytes of a block of this pipe, or why there are none
 pub record IsReadOf (p : SinglePipe) (d : Disk) (meter : Meter) (handle : FileBlockHandle) (result : Result (Vec ℕ Global) Error) : Type 0 where
@@ -78,3 +78,6 @@ pub record IsPurgeOf (old : SinglePipe) (d : Disk) (new : SinglePipe) (e : Disk)
   pub gone : OnOk result (AreGone old new e)
   pub holds : HoldsRest old d new e
   pub keeps : KeepsFrom old.queue (first_of new) d e
+  pub paths : new.paths ≡ old.paths
+  pub alone : OnOk result (IsAlone old d → IsAlone new e)
+  pub stands : OnErr result (StandsFrom old d new e)

@@ -1,4 +1,4 @@
-use Rattle.std.proofs.Common.{◌≡◌, ◌+◌, ◌^◌, ◌<◌, List, ◌∷◌, ◌++◌, drop, Some, None, inr, refl, sym, ap, arith, ◌∙◌}
+use Rattle.std.proofs.Common.{◌≡◌, ◌⊎◌, inl, ⊎_elim, ◌+◌, ◌^◌, ◌<◌, List, ◌∷◌, ◌++◌, drop, Some, None, inr, refl, sym, ap, arith, ◌∙◌}
 use Rattle.std.specs.Prelude.{Ok, Err}
 use Rattle.raft_log_disk.specs.Disk.{fd_of}
 use Rattle.raft_log_disk.specs.Name.{log_file_of}
@@ -14,6 +14,8 @@ use Rattle.raft_log_pipe.proofs.LostLemmas.{first_lost, lost_before}
 use Rattle.raft_log_pipe.proofs.TakenLemmas.{exit_io, still_taken}
 use Rattle.raft_log_disk.specs.Cause.{Rises}
 use Rattle.raft_log_pipe.proofs.CausedLemmas.{call_cause, exit_cause}
+use Rattle.raft_log_disk.proofs.CauseLemmas.{at_err}
+use Rattle.raft_log_pipe.specs.Purging.{AreGone}
 use Rattle.raft_log_pipe.proofs.pipe.SinglePipe.purge_first.Goals as goal
 
 pub build_file_path-requires : goal.build_file_path-requires
@@ -136,3 +138,26 @@ returns-in_err-delete-clause-cause g c =
     (first_lost p c.index-file.result.now c.index.result.now d c.as_str-2.result.now c.requires.pipe c.requires.some c.index-file.ensures c.index.ensures
     (c.as_str-2.ensures.value ∙ c.in_ok-path.ensures ∙ (λ i. c.as_str.ensures.value i ++ 47 ∷ log_file_name (record { queue = c.new-id.ensures.queue i; seq = c.new-id.ensures.seq i }))))
     (λ x. x) (call_cause (Unit {0}) (Unit {0}) (fd_of d.names c.as_str-2.result.now ≡ None) ⊥ _ _ c.in_err-delete.field-0.0 c.in_err-delete.ensures.cause))
+
+-- the file is where it was, or has gone
+
+pub returns-in_err-path-clause-stays : goal.returns-in_err-path-clause-stays
+returns-in_err-path-clause-stays g c =
+    let d = g.F.FileSystem.disk c.args.files.now in
+    at_err c.from_residual.result ((d ≡ d) ⊎ AreGone c.args.self.now c.args.self.now d) (inl refl)
+
+pub returns-in_err-delete-clause-stays : goal.returns-in_err-delete-clause-stays
+returns-in_err-delete-clause-stays g c =
+    let met = g.met.F.FileSystem g.world.𝓛 g.world.𝓜 g.world.𝓡 ((λ s x. x), (λ x. x), (λ x. x), λ x. x) in
+    let p = c.args.self.now in
+    let q = with_older p c.remove.new.self in
+    let d = g.F.FileSystem.disk c.args.files.now in
+    let e = g.F.FileSystem.disk c.delete.new.self in
+    at_err c.from_residual-in_err-delete.result ((e ≡ d) ⊎ AreGone p q e)
+    (⊎_elim (λ same. inl same)
+    (λ gone. inr (first_gone p q c.index-file.result.now c.index.result.now e c.as_str-2.result.now
+    (removed_first p.older.items c.index-file.result.now c.requires.some c.index-file.ensures ∙ ap (λ (l : List File). c.index-file.result.now ∷ l) (sym c.remove.ensures.items))
+    (first_placed p d c.index-file.result.now c.requires.pipe c.requires.some c.index-file.ensures) c.index.ensures
+    (c.as_str-2.ensures.value ∙ c.in_ok-path.ensures ∙ (λ i. c.as_str.ensures.value i ++ 47 ∷ log_file_name (record { queue = c.new-id.ensures.queue i; seq = c.new-id.ensures.seq i })))
+    (deleted_none d e c.as_str-2.result.now (met.is_named c.args.files.now) gone)))
+    c.in_err-delete.ensures.err)

@@ -11,6 +11,9 @@ use Rattle.raft_log_disk.specs.Cause.{Rises}
 use Rattle.raft_log_files.specs.declared.error.Error.{Error}
 use Rattle.raft_log_pipe.specs.Caused.{IsPurgeFault}
 use Rattle.raft_log_pipe.proofs.CausedLemmas.{caused_for, purge_found, rises_then, told_cause}
+use Rattle.raft_log_disk.proofs.CauseLemmas.{at_err}
+use Rattle.raft_log_pipe.specs.Purging.{StandsFrom}
+use Rattle.raft_log_pipe.proofs.RestLemmas.{rest_alone, stands_from, stands_whole}
 use Rattle.raft_log_pipe.proofs.pipe.SinglePipe.purge_to.Goals as goal
 
 pub returns-in_default-clause-holds : goal.returns-in_default-clause-holds
@@ -26,6 +29,7 @@ loop-gone-init g c =
       active = refl;
       queue = refl;
       paths = refl;
+      set = (refl, refl);
       holds = holds_all c.args.self.now (g.F.FileSystem.disk c.args.files.now) (g.F.FileSystem.disk c.args.files.now) c.requires.pipe refl;
       keeps = same_keeps c.args.self.now.queue (first_of c.args.self.now) (g.F.FileSystem.disk c.args.files.now) (g.F.FileSystem.disk c.args.files.now) refl;
       rest = (0, refl);
@@ -65,6 +69,7 @@ loop-gone-preserved g c =
       active = c.in_ok-purge_first.ensures.same.0 ∙ c.loop-gone.invariant.active;
       queue = c.in_ok-purge_first.ensures.same.1 ∙ c.loop-gone.invariant.queue;
       paths = c.in_ok-purge_first.ensures.same.2 ∙ c.loop-gone.invariant.paths;
+      set = (c.in_ok-purge_first.ensures.set.0 ∙ c.loop-gone.invariant.set.0, c.in_ok-purge_first.ensures.set.1 ∙ c.loop-gone.invariant.set.1);
       holds = rest_on c.args.self.now c.loop-gone.self c.purge_first.new.self (g.F.FileSystem.disk c.args.files.now) (g.F.FileSystem.disk c.loop-gone.files) (g.F.FileSystem.disk c.purge_first.new.files) le
           c.loop-gone.invariant.holds c.in_ok-purge_first.ensures.holds;
       keeps = goes_on c.args.self.now c.loop-gone.self c.purge_first.new.self (g.F.FileSystem.disk c.args.files.now) (g.F.FileSystem.disk c.loop-gone.files) (g.F.FileSystem.disk c.purge_first.new.files)
@@ -124,3 +129,31 @@ returns-in_err-purge_first-clause-bound g c =
     let high = first_or_next q r e c.loop-gone.invariant.pipe c.in_err-purge_first.ensures.same.0 c.in_err-purge_first.ensures.err in
     let next : first_of q + 1 ≤ c.args.seq = omega (arith, c.loop-gone.invariant.count, c.file_span-first.ensures.first, c.in-Some.ensures.found.1) in
     (omega (arith, c.loop-gone.invariant.count, low), λ h. omega (arith, high, next))
+
+-- ---- what is left are the last files of the queue still
+
+pub returns-clause-alone : goal.returns-clause-alone
+returns-clause-alone g c =
+    let met = g.met.F.FileSystem g.world.𝓛 g.world.𝓜 g.world.𝓡 ((λ s x. x), (λ x. x), (λ x. x), λ x. x) in
+    let was = c.loop-gone.invariant in
+    rest_alone c.args.self.now c.loop-gone.self (g.F.FileSystem.disk c.args.files.now) (g.F.FileSystem.disk c.loop-gone.files) (met.is_named c.args.files.now) (met.is_named c.loop-gone.files)
+    c.requires.pipe was.active was.queue was.paths was.rest was.gone was.keeps
+
+pub returns-in_default-clause-stands : goal.returns-in_default-clause-stands
+returns-in_default-clause-stands g c = stands_whole c.args.self.now (g.F.FileSystem.disk c.args.files.now) c.requires.pipe
+
+pub returns-in_err-purge_first-clause-stands : goal.returns-in_err-purge_first-clause-stands
+returns-in_err-purge_first-clause-stands g c =
+    let met = g.met.F.FileSystem g.world.𝓛 g.world.𝓜 g.world.𝓡 ((λ s x. x), (λ x. x), (λ x. x), λ x. x) in
+    let was = c.loop-gone.invariant in
+    let p = c.args.self.now in
+    let q = c.loop-gone.self in
+    let r = c.purge_first.new.self in
+    let d = g.F.FileSystem.disk c.args.files.now in
+    let y = g.F.FileSystem.disk c.loop-gone.files in
+    let e = g.F.FileSystem.disk c.purge_first.new.files in
+    let now = c.in_err-purge_first.ensures in
+    let more = first_or_more q r y was.pipe now.same.0 now.err in
+    at_err c.from_residual.result (StandsFrom p d r e)
+    (stands_from p q r d y e (met.is_named c.args.files.now) (met.is_named c.loop-gone.files) (met.is_named c.purge_first.new.files) c.requires.pipe was.pipe was.active was.queue was.paths was.rest was.gone was.keeps (omega (arith, was.count))
+    was.holds now.same.0 now.same.1 now.same.2 now.rest now.keeps more (rest_on p q r d y e more was.holds now.holds) now.stays)
