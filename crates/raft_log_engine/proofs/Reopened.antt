@@ -54,7 +54,7 @@ opened_content directories d r bs us image e mode found rewrites appends crashed
     (two.0, f.is ∙ (λ i. content_of_batches (all_rewrites i ++ all_appends i)))
 
 -- of a pipe of a queue
-opens_with : (queue : LogQueue) (d : Disk) (p : SinglePipe) (bs us : Numbered) → IsNamed d → p.queue ≡ queue → IsNearlyAlone p d → Leaves p d bs us → OpensWith (directories_of_pipe p) queue d bs us
+pub opens_with : (queue : LogQueue) (d : Disk) (p : SinglePipe) (bs us : Numbered) → IsNamed d → p.queue ≡ queue → IsNearlyAlone p d → Leaves p d bs us → OpensWith (directories_of_pipe p) queue d bs us
 opens_with queue d p bs us named is alone leaves = subst (λ (q : LogQueue). OpensWith (directories_of_pipe p) q d bs us) is (crashed_found p d bs us named alone leaves)
 
 -- ---- the rewrite queue

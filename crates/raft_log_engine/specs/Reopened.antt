@@ -7,7 +7,7 @@ use Rattle.raft_log_disk.specs.Text.{Text}
 use Rattle.raft_log_files.specs.declared.recovery.RecoveryMode.{RecoveryMode}
 use Rattle.raft_log_files.specs.declared.recovery.RecoveryMode.TheVariants.{TolerateTailCorruption}
 use Rattle.raft_log_file.specs.Laws.{Batch}
-use Rattle.raft_log_pipe.specs.Alone.{IsAlone, directories_of_pipe}
+use Rattle.raft_log_pipe.specs.Alone.{IsAlone, IsNearlyAlone, directories_of_pipe}
 use Rattle.raft_log_pipes.specs.declared.pipes.DualPipes.{DualPipes}
 use Rattle.raft_log_pipes.specs.Pipes.{pipe_of}
 use Rattle.raft_log_memtables.specs.Content.{Content}
@@ -47,6 +47,12 @@ pub record StandAlone (p : DualPipes) (d : Disk) : Type 0 where
   pub paths : directories_of_pipe p.rewrite ≡ directories_of_pipe p.append
   pub append : IsAlone p.append d
   pub rewrite : IsAlone p.rewrite d
+
+-- So they are, but for others behind them of which a crash leaves no batches, as a refused call may begin one
+pub record StandNearly (p : DualPipes) (d : Disk) : Type 0 where
+  pub paths : directories_of_pipe p.rewrite ≡ directories_of_pipe p.append
+  pub append : IsNearlyAlone p.append d
+  pub rewrite : IsNearlyAlone p.rewrite d
 
 -- where an engine's files lie
 abbrev pub directories_of_engine : {F : Type 0} → Parts F → List Text

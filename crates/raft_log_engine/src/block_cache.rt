@@ -69,6 +69,14 @@ impl BlockCache {
         self.reads = self.reads.saturating_add(1);
     }
 
+    /// No block is kept any more. The count stays.
+    pub(crate) fn clear(&mut self)
+        ensures none { (handle : FileBlockHandle) (entries : List ℕ) → Keeps self.new handle entries → ⊥ }
+        ensures reads { self.new.reads ≡ self.old.reads }
+    {
+        self.blocks = None;
+    }
+
     /// The block at this place becomes the one that was used last, if it is kept.
     pub(crate) fn promote(&mut self, handle: FileBlockHandle)
         ensures kept { (at : FileBlockHandle) (entries : List ℕ) → Keeps self.new at entries → Keeps self.old at entries }

@@ -1,6 +1,7 @@
 //! An engine over both queues of files.
 
 use crate::block_cache::BlockCache;
+use raft_log_cleaner::PurgeManager;
 use raft_log_files::FileSystem;
 use raft_log_pipes::DualPipes;
 use raft_log_traced::TracedTables;
@@ -19,10 +20,12 @@ pub struct Engine<F: FileSystem> {
     pub(crate) traced: TracedTables,
     /// A write failed.
     pub(crate) is_stopped: bool,
-    /// A write wasn't synced, since the engine was opened.
+    /// A write wasn't synced, since the engine was opened or cleaned.
     pub(crate) wrote_unsynced: bool,
     /// Blocks of entries that were read last.
     pub(crate) blocks: BlockCache,
+    /// Cleans the log.
+    pub(crate) manager: PurgeManager,
 }
 
 impl<F: FileSystem> Model for Engine<F> {

@@ -17,7 +17,8 @@ pub enum EngineFault {
     /// A batch's entries begin past the end of their group's list, or before it.
     #[error("the entries don't fit the group's list")]
     NotTaken,
-    /// A batch is marked as a part of an atomic group, of which only cleaning makes any.
+    /// A batch is marked as a part of an atomic group, of which only cleaning makes any: one that is
+    /// to be written, or one of the append queue where the log is to be cleaned.
     #[error("the batch belongs to an atomic group")]
     Marked,
     /// A value is no message of the type that is asked for.

@@ -5,6 +5,7 @@ mod appending;
 mod block_cache;
 mod blocks;
 mod calls;
+mod cleaning;
 mod compaction;
 mod crashing;
 mod engine;

@@ -22,6 +22,7 @@ ghost use Rattle.raft_log_recovery.specs.Scan.{directories_of};
 use crate::block_cache::BlockCache;
 use crate::engine::Engine;
 use crate::fault::EngineFault;
+use raft_log_cleaner::PurgeManager;
 use raft_log_files::{Config, Error, FileSystem};
 use raft_log_pipes::DualPipes;
 use raft_log_records::LogQueue;
@@ -160,6 +161,7 @@ impl<F: FileSystem + Drop> Engine<F> {
                 is_stopped: false,
                 wrote_unsynced: false,
                 blocks: BlockCache::new(alloc),
+                manager: PurgeManager::new(alloc),
             }),
             Err(fault) => Err(NotOpened { fault, files }),
         }

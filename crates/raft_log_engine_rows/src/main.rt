@@ -3,6 +3,7 @@
 
 mod batches;
 mod calls;
+mod cleaning;
 mod damage;
 mod found;
 mod logs;

@@ -1,6 +1,7 @@
 //! Which calls the words of a row name.
 
 use crate::calls::{Told, steps_on};
+use crate::cleaning::cleanings_of;
 use crate::damage::{Harm, harmed};
 use crate::found::{littered, many_groups, spilled, unread};
 use crate::logs::{crash, genuine, refused_openings};
@@ -91,6 +92,7 @@ fn stop_row(alloc: Global, words: &[&str]) -> Option<Answer> {
             plan.space = Some(number(space));
             Answer::shown(alloc, &first_stops(alloc, plan, number(calls)))
         }
+        ["cleans", plan @ ..] => Answer::shown(alloc, &cleanings_of(alloc, plan_of(plan)?)),
         ["closes", plan @ ..] => Answer::shown(alloc, &closes_of(alloc, plan_of(plan)?)),
         _ => log_row(alloc, words)?,
     })

@@ -104,7 +104,7 @@ fn limited(files: &mut MemoryFileSystem, bytes: u64) -> Result<(), IoFault> {
 }
 
 /// The files behind a stop are crashed, and opened again without a limit: which batches are found.
-fn found_behind(
+pub(crate) fn found_behind(
     files: MemoryFileSystem,
     alloc: Global,
     plan: Plan,
