@@ -31,7 +31,8 @@ impl<M: StateMachine, S: GroupStorage<Snapshot = SnapshotBytes> + CleanStorage> 
         ensures stops { self.old.groups.has_failed ≡ false
             → IfErr result (λ why. (fault : S.GroupStorage.Fault) × IsStopFor (Storage fault) (λ group. waiting_of (running_in M.state self.old.machines group)) why) }
         ensures stopped { self.old.groups.has_failed ≡ false
-            → OnErr result ((self.new.groups ≡ record self.old.groups { storage = self.new.groups.storage; has_failed = true }) × (self.new.machines ≡ None) × (self.new.feeders ≡ self.old.feeders)) }
+            → OnErr result ((self.new.groups ≡ record self.old.groups { storage = self.new.groups.storage; has_failed = true })
+            × (self.new.machines ≡ None) × (self.new.feeders ≡ self.old.feeders)) }
     {
         if self.groups.has_failed {
             return Err(Fault::Failed);

@@ -1,6 +1,7 @@
 //! The text of what a node answers.
 ghost use Rattle.std.specs.Prelude.{◌≡◌, ◌++◌, IfOk, OnOk, drop, map, string_bytes};
-ghost use Rattle.raft_node_script.specs.Answers.{cleaned_text, compacts_text, done_text, fault_text, frame_text, frames_text, named_text, sent_text, stop_text, told_text, unopened_text, without_frames};
+ghost use Rattle.raft_node_script.specs.Answers.{cleaned_text, compacts_text};
+ghost use Rattle.raft_node_script.specs.Answers.{done_text, fault_text, frame_text, frames_text, named_text, sent_text, stop_text, told_text, unopened_text, without_frames};
 
 use crate::home::HomeRefusal;
 use itoa::Buffer;
