@@ -1,12 +1,11 @@
 //! A node's log is cleaned.
-ghost use Rattle.std.specs.Prelude.{◌≡◌, ◌⊎◌, ℕ, true, false, None, Err, IfErr, IfOk, OnErr, OnOk};
+ghost use Rattle.std.specs.Prelude.{◌≡◌, true, false, None, Err, IfErr, IfOk, OnErr, OnOk};
 ghost use Rattle.std.specs.List.Sorted.{IsStrictlySortedBy};
 ghost use Rattle.std.specs.Ordering.{nat_cmp};
 ghost use Rattle.raft_group_storage.specs.Keeping.{KeepsAll};
-ghost use Rattle.raft_node.specs.Settling.{IsStopFor};
+ghost use Rattle.raft_node.specs.Settling.{IsStorageStop};
 ghost use Rattle.raft_node.specs.Standing.{running_in};
 ghost use Rattle.raft_node.specs.Waiting.{waiting_of};
-ghost use Rattle.raft_node_faults.specs.declared.fault.Cause.TheVariants.{Storage};
 ghost use Rattle.raft_node_faults.specs.declared.fault.Fault.TheVariants.{Failed};
 
 use crate::node::Node;
@@ -28,8 +27,7 @@ impl<M: StateMachine, S: GroupStorage<Snapshot = SnapshotBytes> + CleanStorage> 
         ensures well { S.GroupStorage.is_well self.old.groups.storage → OnOk result (S.GroupStorage.is_well self.new.groups.storage) }
         ensures kept { KeepsAll (S.GroupStorage.shows self.old.groups.storage) (S.GroupStorage.shows self.new.groups.storage) }
         ensures failed { self.old.groups.has_failed ≡ true → (result ≡ Err Failed) × (self.new ≡ self.old) }
-        ensures stops { self.old.groups.has_failed ≡ false
-            → IfErr result (λ why. (fault : S.GroupStorage.Fault) × IsStopFor (Storage fault) (λ group. waiting_of (running_in M.state self.old.machines group)) why) }
+        ensures stops { self.old.groups.has_failed ≡ false → IfErr result (IsStorageStop (λ group. waiting_of (running_in M.state self.old.machines group))) }
         ensures stopped { self.old.groups.has_failed ≡ false
             → OnErr result ((self.new.groups ≡ record self.old.groups { storage = self.new.groups.storage; has_failed = true })
             × (self.new.machines ≡ None) × (self.new.feeders ≡ self.old.feeders)) }
