@@ -8,6 +8,7 @@ ghost use Rattle.raft_log_records.specs.Block.{bytes_at};
 ghost use Rattle.raft_log_records.specs.Spelling.{block_of};
 ghost use Rattle.raft_content_log.specs.declared.plain_log.PlainFault.TheVariants.{Memory};
 
+use crate::clean::CleanLog;
 use crate::content_log::ContentLog;
 use raft_log_memtables::{FetchError, MemTables};
 use raft_log_records::{EntryIndex, FileBlockHandle, FileId, LogBatch, LogItemBatch, LogQueue};
@@ -214,5 +215,15 @@ impl ContentLog for PlainLog {
             return Err(PlainFault::Lost);
         }
         Ok(self.tables.has_group(group))
+    }
+}
+
+impl CleanLog for PlainLog {
+    /// It has no files, and keeps all.
+    fn clean(&mut self) -> Result<Vec<u64>, PlainFault> {
+        if self.is_lost {
+            return Err(PlainFault::Lost);
+        }
+        Ok(Vec::new(self.alloc))
     }
 }

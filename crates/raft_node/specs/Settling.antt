@@ -44,6 +44,15 @@ abbrev pub IsStopFor : {F : Type 0} → Cause F → (ℕ → List Untold) → Fa
 IsStopFor why waiting (fault.Stopped cause unknown) = (cause ≡ why) × ((group : ℕ) → named_of unknown.items group ≡ waiting group)
 IsStopFor why waiting other = ⊥
 
+abbrev pub IsOfStorage : {F : Type 0} → Cause F → Type 0
+IsOfStorage (cause.Storage why) = Unit {0}
+IsOfStorage other = ⊥
+
+-- it is a stop since the storage failed, and names these tokens of each group
+abbrev pub IsStorageStop : {F : Type 0} → (ℕ → List Untold) → Fault F → Type 0
+IsStorageStop waiting (fault.Stopped cause unknown) = IsOfStorage cause × ((group : ℕ) → named_of unknown.items group ≡ waiting group)
+IsStorageStop waiting other = ⊥
+
 -- ---- a fault is told
 
 -- a stop names all tokens that waited, and any other fault leaves all as it was

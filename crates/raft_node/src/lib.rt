@@ -3,6 +3,7 @@
 
 mod asking;
 mod calls;
+mod cleaning;
 mod crash;
 mod feeding;
 mod fuse;

@@ -2,6 +2,7 @@
 #![tactic(auto)]
 
 mod batches;
+mod cleaning;
 mod crash;
 mod fault;
 mod fuse;
