@@ -5,11 +5,10 @@ ghost use Rattle.raft_log_items.specs.Items.{IsReading};
 use raft_log_files::{Error, FileSystem};
 use raft_log_items::LogItemReader;
 use raft_log_records::LogItem;
-use raft_log_tools::dump;
 use std::alloc::Global;
 
 /// What each call of `next` answered, up to the end.
-fn all<F: FileSystem>(
+pub fn all<F: FileSystem>(
     files: &mut F,
     alloc: Global,
     mut reader: LogItemReader,
@@ -44,15 +43,5 @@ pub fn of_directory<F: FileSystem>(
     directory: &str,
 ) -> Result<Vec<Result<LogItem, Error>>, Error> {
     let reader = LogItemReader::new_directory_reader(files, alloc, directory)?;
-    all(files, alloc, reader)
-}
-
-/// The items of what a path stands for.
-pub fn of_path<F: FileSystem>(
-    files: &mut F,
-    alloc: Global,
-    path: &str,
-) -> Result<Vec<Result<LogItem, Error>>, Error> {
-    let reader = dump(files, alloc, path)?;
     all(files, alloc, reader)
 }

@@ -2,10 +2,11 @@
 
 use crate::files::{make_all, path_of};
 use crate::holes::holes;
-use crate::reading::{of_directory, of_file, of_path};
+use crate::reading::{of_directory, of_file};
+use crate::tools::{dumped, forked};
 use raft_log_files::{CrashFiles, Error, FileSystem, MemoryFileSystem};
 use raft_log_records::LogItem;
-use raft_log_tools::consistency_check;
+use raft_log_tools::{CopyDetails, ForkError, consistency_check};
 use raft_rows::{Answer, Rows};
 use std::alloc::Global;
 
@@ -55,7 +56,20 @@ fn dump_of(
     words: &[&str],
 ) -> Result<Vec<Result<LogItem, Error>>, Error> {
     let mut files = files_of(alloc, words)?;
-    of_path(&mut files, alloc, path)
+    dumped(&mut files, alloc, path)
+}
+
+/// The copies, and the items of the directory that they are in.
+fn fork_of(
+    alloc: Global,
+    target: &str,
+    setting: &str,
+    words: &[&str],
+) -> Result<(CopyDetails, Vec<Result<LogItem, Error>>), ForkError> {
+    let mut files = files_of(alloc, words)?;
+    let details = forked(&mut files, alloc, setting, target)?;
+    let told = dumped(&mut files, alloc, target)?;
+    Ok((details, told))
 }
 
 impl Rows for Calls {
@@ -68,6 +82,9 @@ impl Rows for Calls {
             ["unread", name, words @ ..] => Answer::shown(alloc, &unread(alloc, name, words)),
             ["dump", path, words @ ..] => Answer::shown(alloc, &dump_of(alloc, path, words)),
             ["check", path, words @ ..] => Answer::shown(alloc, &checked(alloc, path, words)),
+            ["fork", target, setting, words @ ..] => {
+                Answer::shown(alloc, &fork_of(alloc, target, setting, words))
+            }
             ["holes", words @ ..] => Answer::shown(alloc, &holes(alloc, words)),
             _ => return None,
         })

@@ -1,3 +1,4 @@
+pub mod ForkLemmas
 pub mod PathLemmas
 pub mod ReadLemmas
 pub mod RunLemmas

@@ -14,13 +14,14 @@ ghost use Rattle.raft_log_recovery.specs.Replay.{Placed};
 ghost use Rattle.raft_log_items.specs.Holes.{hole_in, written_by};
 ghost use Rattle.raft_log_tools.specs.Checking.{AreItemsOf, AreTold, IsCheckFault, IsFileRefusal, first_hole, items_of_files};
 
+use crate::directories::one_directory;
 use crate::found::{found_files, open_to_read};
 use crate::telling::told_by_both;
 use raft_log_files::{ArgumentFault, Error, FileSystem};
 use raft_log_items::ConsistencyChecker;
 use raft_log_records::{FileId, LogQueue};
 use raft_log_recovery::{FileName, NewMachine, ReplayMachine, replay_file};
-use std::alloc::{AllocError, Global};
+use std::alloc::Global;
 
 /// The bytes that a read of a file asks for at least.
 const READ_BLOCK_SIZE: u64 = 16384;
@@ -70,15 +71,6 @@ fn holes_of_queue<F: FileSystem>(
     let mut checker = ConsistencyChecker::new_machine(alloc);
     replay_each(files, alloc, &mut checker, directories, queue, &names)?;
     Ok(checker.finish(alloc)?)
-}
-
-/// The directories of an engine that has this one alone.
-fn one_directory(alloc: Global, directory: &str) -> Result<Vec<String>, AllocError>
-    ensures { IfOk result (λ v. map string_bytes v.items ≡ directory.now ∷ []) }
-{
-    let mut directories = Vec::new(alloc);
-    directories.push(String::from_str(alloc, directory)?)?;
-    Ok(directories)
 }
 
 /// The groups whose entries have a hole, rising, each with the last index before its first one
