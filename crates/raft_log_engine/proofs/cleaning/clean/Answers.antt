@@ -1,8 +1,8 @@
 -- A rewriting, and files that go.
 use Rattle.raft_log_engine.proofs.cleaning.clean.Goals as goal
 
-pub purge_append_files-requires : goal.purge_append_files-requires
-purge_append_files-requires g c = (c.requires.0, c.in_default.ensures.ok c.requires.0 c.requires.1)
+pub purge_append_files-requires-after_bounds : goal.purge_append_files-requires-after_bounds
+purge_append_files-requires-after_bounds g c κs within = (c.requires.0, c.in_default.ensures.ok c.requires.0 c.requires.1)
 
 pub returns-in-Err : goal.returns-in-Err
 returns-in-Err g c = record { ok = λ content can. tt; err = λ content can. c.in-Err.ensures.err content can }

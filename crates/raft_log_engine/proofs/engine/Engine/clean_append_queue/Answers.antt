@@ -7,8 +7,8 @@ use Rattle.raft_log_engine.proofs.Clauses.{kept_by, parts}
 use Rattle.raft_log_engine.proofs.Cleaned.{can_clean, cleaned_holds, cleaned_kept, cleaned_left, cleaned_seen, cleaned_written, nearly_opens, refused_reads}
 use Rattle.raft_log_engine.proofs.engine.Engine.clean_append_queue.Goals as goal
 
-pub clean-requires : goal.clean-requires
-clean-requires g c κs within =
+pub clean-requires-after_bounds : goal.clean-requires-after_bounds
+clean-requires-after_bounds g c κs within =
     let d = g.F.FileSystem.disk c.self.inside.files in
     let e = g.F.FileSystem.disk c.sync_unsynced.new.files in
     let p = c.self.inside.pipes in
@@ -142,7 +142,7 @@ returns-in-Err-clean-clause-opens_still g c =
     rw (← c.self.view_is) (λ sound stand. refused_reads (g.F.FileSystem.disk c.clean.new.files) c.clean.new.pipes content (met.is_named c.clean.new.files) (c.in-Err-clean.ensures.err content can) stand)
 
 pub returns-in-Err-clause-opens_still : goal.returns-in-Err-clause-opens_still
-returns-in-Err-clause-opens_still g c = rw (← c.self.view_is) (λ sound. absurd (c.in-Err.ensures.needed sound.synced))
+returns-in-Err-clause-opens_still g c = rw (← c.self.view_is) (λ sound. absurd (false≢true (c.in-Err.ensures.needed sound.synced)))
 
 pub returns-then-self-2-clause-opens_still : goal.returns-then-self-2-clause-opens_still
 returns-then-self-2-clause-opens_still g c =
