@@ -25,3 +25,4 @@ pub mod Taken
 pub mod Corrupt
 pub mod Caused
 pub mod Unopened
+pub mod Handed
