@@ -1,33 +1,17 @@
 -- The content of batches, one by one.
-use Rattle.std.proofs.Common.{◌≡◌, ℕ, false, List, [], ◌∷◌, ◌++◌, map, Option, None, refl, sym, ap, ◌∙◌}
+use Rattle.std.proofs.Common.{◌≡◌, ℕ, false, List, [], ◌∷◌, ◌++◌, map, Option, None, ap, ◌∙◌}
 use Rattle.std.specs.List.{list_any}
-use Rattle.std.proofs.lemmas.Bool.{false≢true, or_parts}
 use Rattle.std.proofs.lemmas.List.{map-append}
 use Rattle.raft_log_records.specs.declared.item.AtomicGroupStatus.{AtomicGroupStatus}
-use Rattle.raft_log_records.specs.Item.{Change}
-use Rattle.raft_log_records.specs.Item.Change.{entries, clean, compact, put, delete, mark}
-use Rattle.raft_log_records.specs.Spelling.{holds_mark, is_mark}
+use Rattle.raft_log_records.specs.Spelling.{holds_mark}
 use Rattle.raft_log_file.specs.Laws.{Batch}
 use Rattle.raft_log_pipe.specs.Pipe.{Numbered}
 use Rattle.raft_log_memtables.specs.Content.{Content, after_batch, nothing}
-use Rattle.raft_log_memtables.specs.Replay.{Replay, after_marked, after_record, after_records, content_of, mark_in, mark_of}
+use Rattle.raft_log_memtables.specs.Replay.{Replay, after_marked, after_record, after_records, content_of, mark_of}
+use Rattle.raft_log_traced.proofs.MarkedLemmas.{unmarked}
 use Rattle.raft_log_blocks.specs.Held.{content_of_batches}
 
 -- ---- a batch without marks counts at once
-
-plain_change : (change : Change (List ℕ)) (o : Option (ℕ × AtomicGroupStatus)) → is_mark change ≡ false → mark_in change o ≡ o
-plain_change (entries es) o h = refl
-plain_change clean o h = refl
-plain_change (compact limit) o h = refl
-plain_change (put key value) o h = refl
-plain_change (delete key) o h = refl
-plain_change (mark id status) o h = absurd (false≢true (sym h))
-
-pub unmarked : (items : Batch) → list_any holds_mark items ≡ false → mark_of items ≡ None
-unmarked [] h = refl
-unmarked (item ∷ items) h =
-    let both = or_parts (is_mark item.change) (list_any holds_mark items) h in
-    plain_change item.change (mark_of items) both.0 ∙ unmarked items both.1
 
 abbrev Replayed : Type 0
 Replayed = Replay (List ℕ) (Content (List ℕ))

@@ -1,5 +1,5 @@
 -- The traces of a recovery are those of the batches that the files read as.
-use Rattle.std.proofs.Common.{◌≡◌, inl, inr, ℕ, List, [], ◌∷◌, ◌++◌, map, refl, sym, ap, subst, ◌∙◌, append_assoc}
+use Rattle.std.proofs.Common.{◌≡◌, false, inl, inr, ℕ, List, [], ◌∷◌, ◌++◌, map, refl, sym, ap, subst, ◌∙◌, append_assoc}
 use Rattle.std.proofs.lemmas.List.{append-nil, map-append}
 use Rattle.raft_log_records.specs.declared.file_id.FileId.{FileId}
 use Rattle.raft_log_records.specs.declared.file_id.LogQueue.{LogQueue}
@@ -32,7 +32,7 @@ use Rattle.raft_log_traced.specs.Traced.{AreOf, filed_in, lies_in}
 use Rattle.raft_log_marks.specs.Mapped.{filed_map, items_map}
 use Rattle.raft_log_marks.specs.Opened.{TellPlaces}
 use Rattle.raft_log_marks.specs.Standing.{CanBeCleaned}
-use Rattle.raft_log_marks.proofs.MappedLemmas.{cleaned_mapped, rise_before, unmarked_before}
+use Rattle.raft_log_marks.proofs.MappedLemmas.{cleaned_mapped, rise_before}
 use Rattle.raft_log_blocks.specs.Held.{IsTabled, ReadsEntries, content_of_batches}
 use Rattle.raft_log_blocks.specs.Placed.{bytes_on}
 use Rattle.raft_log_blocks.proofs.EntryReads.{disk_reads}
@@ -48,6 +48,7 @@ pub record MayBeTraced (first : ℕ) (traced : TracedTables) (rewrites appends :
   pub cleanable : FilesRise first (filed_in appends) → AreUnmarked (queues.batches_of (filed_in appends))
       → CanBeCleaned first (traces_in traced.traces) (records_in rewrites) (content_in traced.tables) (filed_in appends)
   pub placed : FilesRise first (filed_in appends) → AreUnmarked (queues.batches_of (filed_in appends)) → TellPlaces lies_in (traces_in traced.traces) (content_in traced.tables)
+  pub unmarked : traced.has_marked ≡ false → AreUnmarked (queues.batches_of (filed_in appends))
 
 abbrev filed_seen : (EntryIndex → List ℕ) → List Placed → List (Filed (List ℕ))
 filed_seen f all = map (filed_map f) (filed_in all)
@@ -118,7 +119,7 @@ found_traced d new p rfs afs ones twos traced pipes rewrite append in_rewrites i
     seen_all p.rewrite front read (λ items. items) (seen_bytes p.rewrite front read (λ e bytes lies. reads e bytes (inl lies))) d [] rfs ones in_rewrites refl one in
     let batches : filed_seen read twos ≡ filed behind = all_filed p.append behind read (seen_bytes p.append behind read (λ e bytes lies. reads e bytes (inr lies))) d [] afs twos in_appends refl two in
     let rise : FilesRise first (filed behind) = subst (λ (l : Numbered). FilesRise first (filed l)) (append-nil behind) (holds_rise p.append new behind [] pipes.append.numbers append) in
-    let plain : AreUnmarked (queues.batches_of (filed_in twos)) = unmarked_before read (filed_in twos) (subst (λ (l : List (Filed (List ℕ))). AreUnmarked (queues.batches_of l)) (sym batches) none) in
+    let plain : AreUnmarked (queues.batches_of (filed_in twos)) = may.unmarked none in
     let low : FilesRise first (filed_in twos) = rise_before read first (filed_in twos) (subst (λ (l : List (Filed (List ℕ))). FilesRise first l) (sym batches) rise) in
     record {
       cleanable = subst (λ (l : List (Filed (List ℕ))). CanBeCleaned first (traces_in traced.traces) (unnumbered front) (content_of_batches (front ++ behind)) l) batches

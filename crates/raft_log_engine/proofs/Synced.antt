@@ -8,11 +8,11 @@ use Rattle.raft_log_file.specs.Laws.{Batch}
 use Rattle.raft_log_pipe.specs.Pipe.{Holds, Numbered}
 use Rattle.raft_log_pipe.specs.declared.pipe.SinglePipe.{SinglePipe}
 use Rattle.raft_log_pipes.specs.declared.pipes.DualPipes.{DualPipes}
-use Rattle.raft_log_pipes.specs.Pipes.{ArePipes, IsAsBefore}
 use Rattle.raft_log_memtables.specs.Content.{Content, after_batch}
 use Rattle.raft_content_log.specs.Leaving.{AgreesElsewhere, IsWritten, LeavesElsewhere, LeavesNoMore, MayBeWritten}
 use Rattle.raft_log_blocks.specs.Held.{IsKept, seen_on}
 use Rattle.raft_log_engine.specs.Parts.{Parts}
+use Rattle.raft_log_engine.specs.Still.{IsStill}
 use Rattle.raft_log_engine.specs.Left.{IsSound, MayLeave, answers_on, leaves_on}
 use Rattle.raft_log_engine.specs.Reopened.{OpensAs, OpensAsEither, StandsAlone, directories_of_engine, directories_of_pipes}
 use Rattle.raft_log_engine.proofs.Clauses.{HeldBy, is_left, kept_by, only_left}
@@ -27,15 +27,6 @@ at_ok (Ok x) P p = p
 at_ok (Err e) P p = tt
 
 -- ---- a sync, refused or not
-
--- What is on the disk stays there, in the same files
-pub record IsStill (d : Disk) (p : DualPipes) (e : Disk) (q : DualPipes) : Type 0 where
-  pub pipes : ArePipes p d → ArePipes q e
-  pub same : (q.append.active ≡ p.append.active) × (q.append.older ≡ p.append.older)
-  pub paths : q.append.paths ≡ p.append.paths
-  pub names : e.names ≡ d.names
-  pub other : IsAsBefore p.rewrite d q.rewrite e
-  pub holds : (bs : Numbered) → Holds p.append d bs [] → Holds q.append e bs []
 
 -- as a sync that is `Ok` brings all onto the disk
 pub all_synced : (p q : SinglePipe) (d e : Disk) → ((s u : Numbered) → Holds p d s u → Holds q e (s ++ u) []) → (bs : Numbered) → Holds p d bs [] → Holds q e bs []

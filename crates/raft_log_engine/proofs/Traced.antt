@@ -5,7 +5,6 @@ use Rattle.std.proofs.lemmas.List.{map-append}
 use Rattle.raft_log_records.specs.declared.file_id.FileBlockHandle.{FileBlockHandle}
 use Rattle.raft_log_records.specs.declared.file_id.FileId.{FileId}
 use Rattle.raft_log_records.specs.declared.file_id.LogQueue.TheVariants.{Append}
-use Rattle.raft_log_records.specs.declared.item.AtomicGroupStatus.{AtomicGroupStatus}
 use Rattle.raft_log_records.specs.declared.item.EntryIndex.{EntryIndex}
 use Rattle.raft_log_records.specs.Item.{Item, entry_bytes, with_bytes, with_lengths}
 use Rattle.raft_log_records.specs.Places.{placed}
@@ -24,9 +23,8 @@ use Rattle.raft_log_memtables.specs.Replay.{mark_of}
 use Rattle.raft_log_memtables.specs.Taken.{TakesEach}
 use Rattle.raft_log_memtables.proofs.Folds.{marks_mapped}
 use Rattle.raft_log_covers.specs.Account.{IsFrom}
-use Rattle.raft_log_covers.specs.Cells.{AreUnmarked}
 use Rattle.raft_log_covers.specs.Kept.{Traces, traces_after}
-use Rattle.raft_log_covers.specs.Queues.{Filed, FilesRise, batches_of}
+use Rattle.raft_log_covers.specs.Queues.{Filed, FilesRise}
 use Rattle.raft_log_covers.specs.Trace.{Trace}
 use Rattle.raft_log_traces.specs.Alike.{AreAlike, IsAlike}
 use Rattle.raft_log_traces.specs.Files.{KeepsFrom}
@@ -35,6 +33,7 @@ use Rattle.raft_log_traces.proofs.LawLemmas.{entries_say_nothing}
 use Rattle.raft_log_traced.specs.declared.traced.TracedTables.{TracedTables}
 use Rattle.raft_log_marks.specs.Mapped.{filed_map, items_map}
 use Rattle.raft_log_traced.specs.Traced.{lies_in}
+use Rattle.raft_log_traced.proofs.MarkedLemmas.{unmarked}
 use Rattle.raft_log_marks.specs.Opened.{TellPlaces}
 use Rattle.raft_log_marks.specs.Standing.{CanBeCleaned}
 use Rattle.raft_log_marks.specs.Whole.{Follows}
@@ -43,7 +42,6 @@ use Rattle.raft_log_marks.proofs.StandingLemmas.{writes_leave_cleanable}
 use Rattle.raft_log_blocks.specs.Held.{content_of_batches}
 use Rattle.raft_log_engine.specs.Since.{unnumbered}
 use Rattle.raft_log_engine.specs.Traced.{IsTraced, MayBeCleaned, filed}
-use Rattle.raft_log_engine.proofs.Batches.{unmarked}
 use Rattle.raft_log_engine.proofs.Rising.{first_stays, holds_rise}
 use Rattle.raft_log_engine.proofs.Runs.{follow_all, follow_each}
 use Rattle.raft_log_engine.proofs.Tables.{more_content}
@@ -93,10 +91,7 @@ pub record IsNoted (was now : TracedTables) (h : FileBlockHandle) (items : Batch
   pub named : place.id ≡ h.id
   pub applied : content_in now.tables ≡ after_batch (items_in place drained) (content_in was.tables)
   pub traces : AreAlike (traces_after h.id.seq drained (traces_in was.traces)) (traces_in now.traces)
-
-unmarked_front : (bs more : Numbered) → AreUnmarked (batches_of (filed (bs ++ more))) → AreUnmarked (batches_of (filed bs))
-unmarked_front [] more none = tt
-unmarked_front (b ∷ bs) more none = (none.0, unmarked_front bs more none.1)
+  pub marked : now.has_marked ≡ was.has_marked
 
 -- a batch of an append file that its pipe has now
 module _ (was now : TracedTables) (h : FileBlockHandle) (items : Batch) (noted : IsNoted was now h items) (first : ℕ) (records : List Batch) (content : Content (List ℕ)) (bs : List (Filed (List ℕ)))
@@ -157,7 +152,7 @@ more_traced p q e was now r bs synced unsynced h items numbers more keeps stands
     let low : first ≤ h.id.seq = omega (arith, active) in
     let behind : filed (bs ++ (h.id.seq, items) ∷ []) ≡ filed bs ++ last ∷ [] = map-append (λ (b : ℕ × Batch). record { file = b.0; items = b.1 }) bs ((h.id.seq, items) ∷ []) in
     let rise : FilesRise first (filed bs ++ last ∷ []) = subst (λ (l : List (Filed (List ℕ))). FilesRise first l) (ap filed split ∙ behind) (holds_rise q.append e synced unsynced more holds) in
-    let old : MayBeCleaned p was r bs = before (unmarked_front bs ((h.id.seq, items) ∷ []) none) in
+    let old : MayBeCleaned p was r bs = before (sym noted.marked ∙ none) in
     let can : CanBeCleaned first (traces_in was.traces) (unnumbered r) content (filed bs) =
     cleaned_lower (first_of p.append) first (traces_in was.traces) (unnumbered r) content (filed bs) (first_stays p.append q.append keeps numbers more) old.cleanable in
     record {

@@ -11,4 +11,5 @@ pub mod Since
 pub mod Taken
 pub mod Caused
 pub mod Closing
+pub mod Still
 pub mod Unopened

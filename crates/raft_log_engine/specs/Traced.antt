@@ -1,10 +1,9 @@
 -- What an engine keeps of each group for cleaning, by the batches of both queues.
-use Rattle.std.specs.Prelude.{ℕ, List, ◌++◌, map}
+use Rattle.std.specs.Prelude.{◌≡◌, ℕ, false, List, ◌++◌, map}
 use Rattle.raft_log_pipe.specs.Pipe.{Numbered, first_of}
 use Rattle.raft_log_pipes.specs.declared.pipes.DualPipes.{DualPipes}
 use Rattle.raft_log_memtables.specs.MemTables.{content_in}
-use Rattle.raft_log_covers.specs.Cells.{AreUnmarked}
-use Rattle.raft_log_covers.specs.Queues.{Filed, batches_of}
+use Rattle.raft_log_covers.specs.Queues.{Filed}
 use Rattle.raft_log_traces.specs.GroupTraces.{traces_in}
 use Rattle.raft_log_traced.specs.declared.traced.TracedTables.{TracedTables}
 use Rattle.raft_log_traced.specs.Traced.{lies_in}
@@ -22,7 +21,7 @@ pub record MayBeCleaned (p : DualPipes) (traced : TracedTables) (rewrites append
   pub cleanable : CanBeCleaned (first_of p.append) (traces_in traced.traces) (unnumbered rewrites) (content_of_batches (rewrites ++ appends)) (filed appends)
   pub placed : TellPlaces lies_in (traces_in traced.traces) (content_in traced.tables)
 
--- So it is, unless a batch of the append queue belongs to an atomic group: no engine writes one there, and files that have one are
--- not cleaned
+-- So it is, unless an opening found a batch of the append queue that belongs to an atomic group: no engine writes one there, and files
+-- that have one are not cleaned
 abbrev pub IsTraced : DualPipes → TracedTables → Numbered → Numbered → Type 0
-IsTraced p traced rewrites appends = AreUnmarked (batches_of (filed appends)) → MayBeCleaned p traced rewrites appends
+IsTraced p traced rewrites appends = traced.has_marked ≡ false → MayBeCleaned p traced rewrites appends

@@ -61,6 +61,7 @@ pub(crate) fn apply(
     ensures ok { OnOk result ((place : FileBlockHandle) × ((b : EntriesBlock) → block ≡ Some b → IsPlace written b place)
         × (content_in traced.new.tables ≡ after_batch (batch_items place items) (content_in traced.old.tables)) × (place.id ≡ written.id)) }
     ensures traces { OnOk result (AreAlike (traces_after written.id.seq (items_of items.items.items) (traces_in traced.old.traces)) (traces_in traced.new.traces)) }
+    ensures marked { traced.new.has_marked ≡ traced.old.has_marked }
     ensures err { IfErr result (λ e. e ≡ Log Memory) }
 {
     let place = match block {

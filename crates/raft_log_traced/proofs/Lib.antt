@@ -2,3 +2,4 @@ pub mod PlaceLemmas
 pub mod TraceLemmas
 pub mod OpenedLemmas
 pub mod ReplayedLemmas
+pub mod MarkedLemmas

@@ -1,11 +1,12 @@
 -- Memtables with traces, of the batches that an opening finds.
-use Rattle.std.specs.Prelude.{◌≡◌, ℕ, List, [], ◌∷◌, map, Option, Some, None}
-use Rattle.std.specs.List.{AllByRecursion}
+use Rattle.std.specs.Prelude.{◌≡◌, ℕ, Bool, false, List, [], ◌∷◌, map, Option, Some, None}
+use Rattle.std.specs.List.{AllByRecursion, list_any}
 use Rattle.raft_log_records.specs.declared.item.EntryIndex.{EntryIndex}
 use Rattle.raft_log_records.specs.declared.file_id.FileBlockHandle.{FileBlockHandle}
 use Rattle.raft_log_records.specs.declared.file_id.LogQueue.{LogQueue}
 use Rattle.raft_log_records.specs.declared.file_id.LogQueue.TheVariants.{Append, Rewrite}
 use Rattle.raft_log_records.specs.Item.{Item}
+use Rattle.raft_log_records.specs.Spelling.{holds_mark}
 use Rattle.raft_log_covers.specs.Kept.{Traces, new_trace, traces_after}
 use Rattle.raft_log_covers.specs.Queues.{Filed}
 use Rattle.raft_log_memtables.specs.MemTable.{items_in}
@@ -24,10 +25,21 @@ abbrev pub traces_over : List Placed → Traces → Traces
 traces_over [] traces = traces
 traces_over (p ∷ ps) traces = traces_over ps (traces_with p.handle.id.queue p.handle.id.seq p.items traces)
 
--- the tables have replayed just these batches, and the traces have those of the append queue
+-- a batch of the append queue belongs to an atomic group
+abbrev pub is_marked_in : LogQueue → List (Item EntryIndex) → Bool
+is_marked_in Append items = list_any holds_mark items
+is_marked_in Rewrite items = false
+
+-- one of these does
+abbrev pub any_marked : List Placed → Bool
+any_marked placed = list_any (λ p. is_marked_in p.handle.id.queue p.items) placed
+
+-- the tables have replayed just these batches, the traces have those of the append queue, and it is noted whether one of those is
+-- marked
 pub record IsReplayedTraced (machine : TracedReplay) (placed : List Placed) : Type 0 where
   pub tables : HasReplayed machine.replayed placed
   pub traces : AreAlike (traces_over placed (λ group. new_trace)) (traces_in machine.traces)
+  pub marked : machine.has_marked ≡ any_marked placed
 
 -- the append file that the place of an entry says. None: it lies in the rewrite queue, or nowhere
 abbrev pub file_on : LogQueue → ℕ → Option ℕ

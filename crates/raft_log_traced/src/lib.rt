@@ -2,6 +2,7 @@
 //! and as an opening makes them.
 #![tactic(auto)]
 
+mod marked;
 mod opened;
 mod places;
 mod traced;

@@ -1,6 +1,6 @@
 //! Memtables with the traces of their groups.
 
-ghost use Rattle.std.specs.Prelude.{◌≡◌, ◌++◌, ℕ, List, None, IfOk, OnOk};
+ghost use Rattle.std.specs.Prelude.{◌≡◌, ◌++◌, ℕ, List, None, false, IfOk, OnOk};
 ghost use Rattle.raft_log_covers.specs.Cells.{AreUnmarked};
 ghost use Rattle.raft_log_covers.specs.Kept.{new_trace, traces_after};
 ghost use Rattle.raft_log_covers.specs.Queues.{FilesRise, batches_of};
@@ -14,10 +14,11 @@ ghost use Rattle.raft_log_recovery.specs.Replay.{Placed};
 ghost use Rattle.raft_log_records.specs.declared.file_id.LogQueue.TheVariants.{Append, Rewrite};
 ghost use Rattle.raft_log_replay.specs.Batches.{content_over, reach_over, records_in};
 ghost use Rattle.raft_log_traced.specs.Places.{items_moved};
-ghost use Rattle.raft_log_traced.specs.Traced.{AreOf, IsReplayedTraced, filed_in, lies_in};
+ghost use Rattle.raft_log_traced.specs.Traced.{AreOf, IsReplayedTraced, any_marked, filed_in, lies_in};
 ghost use Rattle.raft_log_traces.specs.Alike.{AreAlike};
 ghost use Rattle.raft_log_traces.specs.GroupTraces.{traces_in};
 
+use crate::marked::with_marks;
 use crate::opened::{set_entries, set_removals};
 use crate::places::set_places;
 use raft_log_files::Error;
@@ -35,6 +36,9 @@ pub struct TracedTables {
     pub tables: MemTables,
     /// What is kept of each group for cleaning.
     pub traces: GroupTraces,
+    /// A batch of the append queue that an opening replayed belongs to an atomic group. So the traces
+    /// may tell what never counted, and nothing is to be cleaned by them.
+    pub has_marked: bool,
 }
 
 impl TracedTables {
@@ -43,10 +47,12 @@ impl TracedTables {
         ensures content { content_in result.tables ≡ nothing }
         ensures reach { (group : ℕ) → reach_in result.tables group ≡ None }
         ensures traces { (group : ℕ) → traces_in result.traces group ≡ new_trace }
+        ensures marked { result.has_marked ≡ false }
     {
         TracedTables {
             tables: MemTables::new(alloc),
             traces: GroupTraces::new(alloc),
+            has_marked: false,
         }
     }
 
@@ -56,6 +62,7 @@ impl TracedTables {
         ensures content { OnOk result (content_in self.new.tables ≡ after_batch (batch_items handle batch) (content_in self.old.tables)) }
         ensures reach { OnOk result (reach_in self.new.tables ≡ reach_after_batch (batch_items handle batch) (reach_in self.old.tables)) }
         ensures traces { OnOk result (AreAlike (traces_after handle.id.seq (items_of batch.items.items) (traces_in self.old.traces)) (traces_in self.new.traces)) }
+        ensures marked { self.new.has_marked ≡ self.old.has_marked }
     {
         self.traces.apply(handle.id.seq, &batch.items)?;
         self.tables.apply(batch, handle)
@@ -67,6 +74,7 @@ impl TracedTables {
         ensures content { content_in self.new.tables ≡ items_moved handle items.now (content_in self.old.tables) }
         ensures reach { reach_in self.new.tables ≡ reach_in self.old.tables }
         ensures traces { self.new.traces ≡ self.old.traces }
+        ensures marked { self.new.has_marked ≡ self.old.has_marked }
     {
         set_places(&mut self.tables, items, handle);
     }
@@ -77,6 +85,8 @@ impl TracedTables {
 pub struct TracedReplay {
     pub(crate) replayed: ReplayedTables,
     pub(crate) traces: GroupTraces,
+    /// A batch of the append queue belongs to an atomic group.
+    pub(crate) has_marked: bool,
 }
 
 impl ReplayMachine for TracedReplay {
@@ -86,7 +96,10 @@ impl ReplayMachine for TracedReplay {
 
     fn replay(&mut self, batch: LogItemBatch, handle: FileBlockHandle) -> Result<(), Error> {
         match handle.id.queue {
-            LogQueue::Append => self.traces.apply(handle.id.seq, &batch.items)?,
+            LogQueue::Append => {
+                self.has_marked = with_marks(self.has_marked, &batch.items);
+                self.traces.apply(handle.id.seq, &batch.items)?
+            }
             LogQueue::Rewrite => {}
         }
         self.replayed.replay(batch, handle)
@@ -98,6 +111,7 @@ impl NewMachine for TracedReplay {
         TracedReplay {
             replayed: ReplayedTables::new_machine(alloc),
             traces: GroupTraces::new(alloc),
+            has_marked: false,
         }
     }
 }
@@ -114,11 +128,19 @@ impl TracedReplay {
             → IfOk result (λ log. CanBeCleaned first (traces_in log.traces) (records_in rewrites) (content_in log.tables) (filed_in appends)) }
         ensures placed { (rewrites : List Placed) (appends : List Placed) → IsReplayedTraced self (rewrites ++ appends) → AreOf Rewrite rewrites → AreOf Append appends
             → FilesRise first (filed_in appends) → AreUnmarked (batches_of (filed_in appends)) → IfOk result (λ log. TellPlaces lies_in (traces_in log.traces) (content_in log.tables)) }
+        ensures marked { (placed : List Placed) → IsReplayedTraced self placed → IfOk result (λ log. log.has_marked ≡ any_marked placed) }
+        ensures unmarked { (rewrites : List Placed) (appends : List Placed) → IsReplayedTraced self (rewrites ++ appends) → AreOf Append appends
+            → IfOk result (λ log. log.has_marked ≡ false → AreUnmarked (batches_of (filed_in appends))) }
     {
+        let has_marked = self.has_marked;
         let tables = self.replayed.finish();
         let mut traces = self.traces;
         set_removals(&mut traces, first)?;
         set_entries(&mut traces, &tables)?;
-        Ok(TracedTables { tables, traces })
+        Ok(TracedTables {
+            tables,
+            traces,
+            has_marked,
+        })
     }
 }

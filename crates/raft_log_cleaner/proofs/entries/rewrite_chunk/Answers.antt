@@ -30,7 +30,7 @@ returns-then-not-is_followed g c = record { goes_on = stopped (g.F.FileSystem.di
 
 pub returns-in-Err : goal.returns-in-Err
 returns-in-Err g c = record {
-  goes_on = stopped (g.F.FileSystem.disk c.args.files.now) c.args.pipes.now c.args.log.now (record { tables = c.args.log.now.tables; traces = c.rewrite_entries.new.traces }) c.args.writer.now.batch.items c.rewrite_entries.new.batch.items c.of_record.result;
+  goes_on = stopped (g.F.FileSystem.disk c.args.files.now) c.args.pipes.now c.args.log.now (record c.args.log.now { traces = c.rewrite_entries.new.traces }) c.args.writer.now.batch.items c.rewrite_entries.new.batch.items c.of_record.result;
 }
 
 pub returns : goal.returns
@@ -42,7 +42,7 @@ returns g c =
     let count : vec_len c.in_ok-entries.entries ≡ length c.in_ok-entries.entries.items = omega arith in
     let len : c.len.result ≡ length parts = c.len.ensures ∙ count ∙ sym (length-map c.in_ok-entries.entries.items (λ v. v.items)) in
     record {
-      goes_on = added d c.args.pipes.now c.args.log.now (record { tables = c.args.log.now.tables; traces = c.rewrite_entries.new.traces }) c.args.writer.now.batch.items c.rewrite_entries.new.batch.items tt refl
+      goes_on = added d c.args.pipes.now c.args.log.now (record c.args.log.now { traces = c.rewrite_entries.new.traces }) c.args.writer.now.batch.items c.rewrite_entries.new.batch.items tt refl
           (λ content s.
           c.in-Ok.ensures.steps content
           (subst (λ l. IsFrontOf content (traces_in c.args.log.now.traces) group begin (payloads l)) (sym c.deref.ensures.value)

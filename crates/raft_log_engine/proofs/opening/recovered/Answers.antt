@@ -130,6 +130,8 @@ returns-clause-ok g c =
     (subst (λ (n : ℕ). MayBeTraced n traced all.2.rewrites all.2.appends) c.file_span-first.ensures.first (record {
       cleanable = c.in_ok-traced.ensures.cleanable all.2.rewrites all.2.appends (subst (λ (l : List Placed). IsReplayedTraced c.in_ok-pipes.machine l) all.2.all_are all.1)
           (all_queue Rewrite made [] all.2.rewrite.files all.2.rewrites all.2.rewrite.got) (all_queue Append made [] all.2.append.files all.2.appends all.2.append.got);
+      unmarked = c.in_ok-traced.ensures.unmarked all.2.rewrites all.2.appends (subst (λ (l : List Placed). IsReplayedTraced c.in_ok-pipes.machine l) all.2.all_are all.1)
+          (all_queue Append made [] all.2.append.files all.2.appends all.2.append.got);
       placed = c.in_ok-traced.ensures.placed all.2.rewrites all.2.appends (subst (λ (l : List Placed). IsReplayedTraced c.in_ok-pipes.machine l) all.2.all_are all.1)
           (all_queue Rewrite made [] all.2.rewrite.files all.2.rewrites all.2.rewrite.got) (all_queue Append made [] all.2.append.files all.2.appends all.2.append.got);
     })))

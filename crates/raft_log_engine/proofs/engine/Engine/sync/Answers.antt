@@ -2,7 +2,8 @@
 use Rattle.std.proofs.Common.{true, [], ◌++◌, refl, sym, ◌∙◌}
 use Rattle.std.proofs.lemmas.Bool.{false≢true}
 use Rattle.raft_log_engine.proofs.Traced.{still_traced}
-use Rattle.raft_log_engine.proofs.Synced.{IsStill, all_synced, still_left, still_opened}
+use Rattle.raft_log_engine.specs.Still.{IsStill}
+use Rattle.raft_log_engine.proofs.Synced.{all_synced, still_left, still_opened}
 use Rattle.std.proofs.lemmas.List.{append-nil}
 use Rattle.raft_log_pipe.proofs.BlockLemmas.{same_files}
 use Rattle.raft_log_engine.specs.Left.{answers_on}

@@ -1,14 +1,17 @@
-use Rattle.std.proofs.Common.{List, sym, subst}
+use Rattle.std.proofs.Common.{List, ◌||◌, refl, sym, ap, subst, ◌∙◌}
 use Rattle.raft_log_memtables.proofs.Cells.{on_ok}
 use Rattle.raft_log_covers.specs.Kept.{Traces, new_trace, traces_after}
 use Rattle.raft_log_records.specs.declared.item.LogItem.{LogItem}
-use Rattle.raft_log_records.specs.Item.{items_of}
+use Rattle.std.specs.List.{list_any}
+use Rattle.raft_log_records.specs.Item.{item_of, items_of}
+use Rattle.raft_log_records.specs.Spelling.{holds_mark}
 use Rattle.raft_log_recovery.specs.Replay.{Placed}
 use Rattle.raft_log_replay.specs.Batches.{HasReplayed}
 use Rattle.raft_log_traces.specs.Alike.{AreAlike}
 use Rattle.raft_log_traces.specs.GroupTraces.{traces_in}
 use Rattle.raft_log_traced.specs.declared.traced.TracedReplay.{TracedReplay}
 use Rattle.raft_log_traced.specs.Traced.{traces_over}
+use Rattle.raft_log_traced.proofs.MarkedLemmas.{append_noted, rewrite_noted}
 use Rattle.raft_log_traced.proofs.TraceLemmas.{appended, rewritten}
 use Rattle.raft_log_traced.proofs.traced.TracedReplayReplayMachine.replay.Goals.{in-Append+in_ok-apply-in-Append, in-Rewrite}
 use Rattle.raft_log_traced.proofs.traced.TracedReplayReplayMachine.replay.Goals as goal
@@ -22,15 +25,17 @@ returns-clause-replayed c = on_ok c.replay.result c.replay.ensures.replayed
     elim c.match-handle.branch [
       | in-Append+in_ok-apply-in-Append w ↦
           let applied : AreAlike (traces_after c.args.handle.id.seq (items_of c.args.batch.items.items) old) (traces_in w.apply.new.self)
-          = subst (λ (l : List LogItem). AreAlike (traces_after c.args.handle.id.seq (items_of l) old) (traces_in w.apply.new.self)) w.deref.ensures.value w.in_ok-apply-in-Append.ensures.ok in
+          = subst (λ (l : List LogItem). AreAlike (traces_after c.args.handle.id.seq (items_of l) old) (traces_in w.apply.new.self)) w.deref-in-Append.ensures.value w.in_ok-apply-in-Append.ensures.ok in
           let now = subst (λ (m : TracedReplay). AreAlike (traces_after c.args.handle.id.seq (items_of c.args.batch.items.items) old) (traces_in m.traces)) (sym w.self-is) applied in
           record {
             tables = step placed (subst (λ (m : TracedReplay). HasReplayed m.replayed placed) (sym w.self-is) has.tables);
             traces = appended placed p none old (traces_in c.match-handle.self.traces) w.in-Append.is has.traces now;
+            marked = append_noted placed p c.args.batch.items.items c.args.self.now.has_marked c.match-handle.self.has_marked w.in-Append.is refl has.marked (ap (λ (m : TracedReplay). m.has_marked) w.self-is ∙ w.with_marks-self.ensures ∙ ap (λ (l : List LogItem). c.args.self.now.has_marked || list_any (λ item. holds_mark (item_of item)) l) w.deref.ensures.value);
           }
       | in-Rewrite w ↦
           record {
             tables = step placed (subst (λ (m : TracedReplay). HasReplayed m.replayed placed) (sym w.self-is) has.tables);
             traces = rewritten placed p none (traces_in c.match-handle.self.traces) w.in-Rewrite.is (subst (λ (m : TracedReplay). AreAlike (traces_over placed none) (traces_in m.traces)) (sym w.self-is) has.traces);
+            marked = rewrite_noted placed p c.match-handle.self.has_marked w.in-Rewrite.is (ap (λ (m : TracedReplay). m.has_marked) w.self-is ∙ has.marked);
           }
     ])
