@@ -26,3 +26,4 @@ pub mod Corrupt
 pub mod Caused
 pub mod Unopened
 pub mod Cleaned
+pub mod Handed

@@ -14,6 +14,7 @@ mod memory;
 mod opening;
 mod reads;
 mod scans;
+mod ways;
 mod writing;
 
 pub use engine::Engine;

@@ -26,13 +26,20 @@ ghost use Rattle.raft_log_pipe.specs.Alone.{IsOnce, Names};
 ghost use Rattle.raft_log_records.specs.declared.file_id.LogQueue.{LogQueue};
 ghost use Rattle.raft_log_recovery.specs.Crashed.{IsCrashed};
 ghost use Rattle.raft_log_recovery.specs.Scan.{directories_of};
+ghost use Rattle.raft_log_recovery.specs.Ways.{IsWay};
+ghost use Rattle.raft_log_traced.specs.Traced.{IsReplayedTraced};
 
 use crate::engine::Engine;
 use crate::fault::EngineFault;
 use crate::opening::{NotClosed, NotOpened};
 use raft_content_log::ContentLog;
-use raft_log_files::{Config, CrashChoice, CrashFiles, CrashRefusal, Error, MemoryFileSystem};
+use raft_log_files::{
+    Config, CrashChoice, CrashFiles, CrashRefusal, Error, MemoryFileSystem, RecoveryConfig,
+};
+use raft_log_pipe::File;
 use raft_log_records::LogBatch;
+use raft_log_recovery::DualPipesBuilder;
+use raft_log_traced::TracedReplay;
 use std::alloc::{AllocError, Global};
 use std::marker::Model;
 
@@ -127,11 +134,16 @@ impl LogFiles {
 }
 
 impl MemoryLog {
-    /// Opens the log with the files that are there, or makes its first one (own). What the files read
-    /// as is what it answers, and what a crash leaves. A fault in a file is cut away or refused, as
-    /// `recovery_mode` says. A refusal hands the files back: what an opening finds of them as they are
-    /// it might have found of those before.
-    pub fn open(alloc: Global, files: LogFiles) -> Result<MemoryLog, NotOpened<LogFiles>>
+    /// Opens the log as `open` does, with each queue recovered in this way (own).
+    pub(crate) fn open_by<
+        W: Fn(
+            &DualPipesBuilder,
+            &mut MemoryFileSystem,
+            &RecoveryConfig,
+            &mut TracedReplay,
+        ) -> Result<Vec<File>, Error>,
+    >(way: &W, alloc: Global, files: LogFiles) -> Result<MemoryLog, NotOpened<LogFiles>>
+        requires { IsWay (W.pre way.now) (W.post way.now) disk_in meter_in is_bounded_in IsReplayedTraced }
         ensures sound { IfOk result (λ l. l.has_failed ≡ false) }
         ensures answers { IfOk result (λ l. IsFoundBy files.settings (disk_in files.files) (answers_on disk_in l.engine)) }
         ensures leaves { IfOk result (λ l. LeavesOnly (leaves_of_log disk_in l) (answers_on disk_in l.engine)) }
@@ -159,7 +171,7 @@ impl MemoryLog {
                 files: LogFiles { settings, files },
             });
         };
-        match Engine::open_alone(files, alloc, config) {
+        match Engine::open_by(way, files, alloc, config) {
             Ok(engine) => Ok(MemoryLog {
                 engine,
                 settings,

@@ -18,12 +18,15 @@ ghost use Rattle.raft_log_files.specs.declared.error.CorruptionFault.{Corruption
 ghost use Rattle.raft_log_files.specs.declared.error.Error.TheVariants.{Corruption, Other};
 ghost use Rattle.raft_log_files.specs.declared.error.OtherFault.{OtherFault};
 ghost use Rattle.raft_log_recovery.specs.Scan.{directories_of};
+ghost use Rattle.raft_log_recovery.specs.Ways.{IsWay};
+ghost use Rattle.raft_log_traced.specs.Traced.{IsReplayedTraced};
 
 use crate::block_cache::BlockCache;
 use crate::engine::Engine;
 use crate::fault::EngineFault;
 use raft_log_cleaner::PurgeManager;
-use raft_log_files::{Config, Error, FileSystem};
+use raft_log_files::{Config, Error, FileSystem, RecoveryConfig};
+use raft_log_pipe::File;
 use raft_log_pipes::DualPipes;
 use raft_log_records::LogQueue;
 use raft_log_recovery::{DefaultMachineFactory, DualPipesBuilder};
@@ -59,12 +62,23 @@ fn sound_settings(mut config: Config) -> Result<Config, Error>
     Ok(config)
 }
 
-/// The pipes over the files that are there, and the tables and traces of their batches.
-fn recovered<F: FileSystem>(
+/// The pipes over the files that are there, and the tables and traces of their batches, where each
+/// queue is recovered in this way.
+fn recovered<
+    F: FileSystem,
+    W: Fn(
+        &DualPipesBuilder,
+        &mut F,
+        &RecoveryConfig,
+        &mut TracedReplay,
+    ) -> Result<Vec<File>, Error>,
+>(
+    way: &W,
     files: &mut F,
     alloc: Global,
     config: Config,
 ) -> Result<(DualPipes, TracedTables), EngineFault>
+    requires { IsWay (W.pre way.now) (W.post way.now) F.disk F.meter F.is_bounded IsReplayedTraced }
     ensures ok { IfOk result (λ found. IsRecoveredAs config.recovery_mode (directories_of (settings_of config)) (F.disk files.old) (F.disk files.new) found.0 found.1) }
     ensures paths { IfOk result (λ found. directories_of_pipes found.0 ≡ directories_of (settings_of config)) }
     ensures settings { IfOk result (λ found. AreSetAs (settings_of config) found.0) }
@@ -83,20 +97,28 @@ fn recovered<F: FileSystem>(
     let mut builder = DualPipesBuilder::new(alloc, config);
     builder.scan(files)?;
     let factory = DefaultMachineFactory::new(alloc);
-    let (pipes, machine) = builder.recover_alone::<F, TracedReplay, DefaultMachineFactory>(
-        files, &factory,
-    )?;
+    let (pipes, machine) = builder.recover_by(way, files, &factory)?;
     let (first, _) = pipes.file_span(LogQueue::Append);
     let traced = machine.finish(first)?;
     Ok((pipes, traced))
 }
 
 /// The same under sound settings. Unsound ones are refused before any call on the files.
-fn found_soundly<F: FileSystem>(
+fn found_soundly<
+    F: FileSystem,
+    W: Fn(
+        &DualPipesBuilder,
+        &mut F,
+        &RecoveryConfig,
+        &mut TracedReplay,
+    ) -> Result<Vec<File>, Error>,
+>(
+    way: &W,
     files: &mut F,
     alloc: Global,
     config: Config,
 ) -> Result<(DualPipes, TracedTables), EngineFault>
+    requires { IsWay (W.pre way.now) (W.post way.now) F.disk F.meter F.is_bounded IsReplayedTraced }
     ensures ok { IfOk result (λ found. IsRecoveredAs config.recovery_mode (directories_of (settings_of config)) (F.disk files.old) (F.disk files.new) found.0 found.1) }
     ensures paths { IfOk result (λ found. directories_of_pipes found.0 ≡ directories_of (settings_of config)) }
     ensures settings { IfOk result (λ found. AreSetAs (settings_of config) found.0) }
@@ -114,20 +136,20 @@ fn found_soundly<F: FileSystem>(
         → IfErr result (λ fault. IsUnopenable (settings_fault (settings_of config)) config.recovery_mode (directories_of (settings_of config)) (F.disk files.old) (F.disk files.new) fault) }
 {
     let sound = sound_settings(config)?;
-    recovered(files, alloc, sound)
+    recovered(way, files, alloc, sound)
 }
 
 impl<F: FileSystem + Drop> Engine<F> {
-    /// Opens the engine with the files that are there, or makes the first one of a queue that has
-    /// none (raft-engine's `open`, with one worker): its content is that of the rewrite queue's
-    /// batches, with those of the append queue behind them. A fault in a file is cut away or refused,
-    /// as `recovery_mode` says. Unsound settings are refused as by `Config::sanitize`, with no call on
-    /// the files. A refusal hands the files back, which read as before.
-    pub fn open_alone(
-        mut files: F,
-        alloc: Global,
-        config: Config,
-    ) -> Result<Engine<F>, NotOpened<F>>
+    /// Opens the engine as `open_alone` does, with each queue recovered in this way (own).
+    pub(crate) fn open_by<
+        W: Fn(
+            &DualPipesBuilder,
+            &mut F,
+            &RecoveryConfig,
+            &mut TracedReplay,
+        ) -> Result<Vec<File>, Error>,
+    >(way: &W, mut files: F, alloc: Global, config: Config) -> Result<Engine<F>, NotOpened<F>>
+        requires { IsWay (W.pre way.now) (W.post way.now) F.disk F.meter F.is_bounded IsReplayedTraced }
         ensures sound { IfOk result IsSound }
         ensures answers { IfOk result (λ e. IsFoundContent config.recovery_mode (directories_of (settings_of config)) (F.disk files) (answers_on F.disk e)) }
         ensures fresh { (F.disk files).names ≡ [] → IfOk result (λ e. answers_on F.disk e ≡ nothing) }
@@ -152,7 +174,7 @@ impl<F: FileSystem + Drop> Engine<F> {
             → IfErr result (λ refused. IsUnopenable (settings_fault (settings_of config)) config.recovery_mode (directories_of (settings_of config))
             (F.disk files) (F.disk refused.files) refused.fault) }
     {
-        match found_soundly(&mut files, alloc, config) {
+        match found_soundly(way, &mut files, alloc, config) {
             Ok((pipes, traced)) => Ok(Engine {
                 alloc,
                 files,

@@ -3,8 +3,9 @@
 //! Each line of the input is a task such as `open 256 32 16 1000`: what is done, the bytes of an
 //! entry, the entries of a batch, the groups that batches go to in turn, and how many batches there
 //! are. `write` writes them, each with a sync, and `files` each to a file of its own; `open` closes
-//! the engine too, and opens it again; `fetch` reads the last batch of a group behind each write, and
-//! `get` each of its entries by a call of its own. The answer is the last index of the first group.
+//! the engine too, and opens it again, and `workers 4` the same with files of 4 MB, by so many workers;
+//! `fetch` reads the last batch of a group behind each write, and `get` each of its entries by a call
+//! of its own. The answer is the last index of the first group.
 #![tactic(auto)]
 
 mod task;
@@ -21,7 +22,7 @@ fn main(rt: HostRuntime) -> io::Result<()> {
             println!(rt; "{line}: no task")?;
             continue;
         };
-        match run(rt.alloc(), task) {
+        match run(&rt, rt.alloc(), task) {
             Ok(Some(last)) => println!(rt; "{line}: {last}")?,
             Ok(None) => println!(rt; "{line}: none")?,
             Err(fault) => println!(rt; "{line}: {fault}")?,

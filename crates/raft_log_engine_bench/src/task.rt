@@ -6,6 +6,8 @@ pub enum Work {
     Write,
     Files,
     Open,
+    /// As `Open`, by so many workers.
+    Workers(usize),
     Fetch,
     Get,
 }
@@ -35,8 +37,12 @@ fn work_of(word: &str) -> Option<Work> {
 /// The task of a line.
 pub fn parse(line: &str) -> Option<Task> {
     let mut words = line.split_whitespace();
+    let work = match words.next()? {
+        "workers" => Work::Workers(words.next()?.parse().ok()?),
+        word => work_of(word)?,
+    };
     Some(Task {
-        work: work_of(words.next()?)?,
+        work,
         len: words.next()?.parse().ok()?,
         batch: words.next()?.parse().ok()?,
         groups: words.next()?.parse().ok()?,

@@ -5,19 +5,39 @@ use raft_log_engine::{Engine, EngineFault};
 use raft_log_files::{Config, Error, MemoryFileSystem};
 use raft_log_records::{LogBatch, ReadableSize};
 use std::alloc::Global;
+use std::thread::Threads;
 
 type MemoryEngine = Engine<MemoryFileSystem>;
 
-fn opened(alloc: Global, files: MemoryFileSystem, work: Work) -> Result<MemoryEngine, EngineFault> {
+fn opened<R: Threads + Sync>(
+    rt: &R,
+    alloc: Global,
+    files: MemoryFileSystem,
+    work: Work,
+) -> Result<MemoryEngine, EngineFault> {
     let mut config = Config::default(alloc);
     config.dir = String::from_str(alloc, "main")?;
-    if work == Work::Files {
-        config.target_file_size = ReadableSize(1);
-    }
-    match Engine::open_alone(files, alloc, config) {
+    let engine = match work {
+        Work::Workers(workers) => {
+            config.target_file_size = ReadableSize(1 << 22);
+            config.recovery_threads = workers;
+            Engine::open_with_file_system(rt, files, alloc, config)
+        }
+        Work::Files => {
+            config.target_file_size = ReadableSize(1);
+            Engine::open_alone(files, alloc, config)
+        }
+        _ => Engine::open_alone(files, alloc, config),
+    };
+    match engine {
         Ok(engine) => Ok(engine),
         Err(refused) => Err(refused.fault),
     }
+}
+
+/// Whether the engine is opened again.
+fn opens_again(work: Work) -> bool {
+    matches!(work, Work::Open | Work::Workers(_))
 }
 
 /// Adds a batch's entries, and writes it.
@@ -75,8 +95,12 @@ fn turn(
 }
 
 /// The last index of the first group, behind all turns.
-pub fn run(alloc: Global, task: Task) -> Result<Option<u64>, EngineFault> {
-    let mut engine = opened(alloc, MemoryFileSystem::new(alloc), task.work)?;
+pub fn run<R: Threads + Sync>(
+    rt: &R,
+    alloc: Global,
+    task: Task,
+) -> Result<Option<u64>, EngineFault> {
+    let mut engine = opened(rt, alloc, MemoryFileSystem::new(alloc), task.work)?;
     let mut entries = Vec::new(alloc);
     for _ in 0..task.batch {
         entries.push(Vec::from_elem(alloc, 7u8, task.len)?)?;
@@ -85,12 +109,12 @@ pub fn run(alloc: Global, task: Task) -> Result<Option<u64>, EngineFault> {
     for round in 0..task.rounds {
         turn(&mut engine, &mut batch, task, round, &entries)?;
     }
-    if task.work == Work::Open {
+    if opens_again(task.work) {
         let files = match engine.close() {
             Ok(files) => files,
             Err(refused) => return Err(refused.fault),
         };
-        engine = opened(alloc, files, task.work)?;
+        engine = opened(rt, alloc, files, task.work)?;
     }
     engine.last_index(0)
 }

@@ -33,8 +33,8 @@ pub fn builder_of(alloc: Global) -> Result<DualPipesBuilder, AllocError> {
     Ok(DualPipesBuilder::new(alloc, config))
 }
 
-// The bytes of the files of the append queue up to the ninth.
-fn bytes_in<F: FileSystem>(files: &mut F, alloc: Global) -> Result<Vec<Vec<u8>>, Error> {
+/// The bytes of the files of the append queue up to the ninth.
+pub fn bytes_in<F: FileSystem>(files: &mut F, alloc: Global) -> Result<Vec<Vec<u8>>, Error> {
     let mut all = Vec::new(alloc);
     for seq in 1..10 {
         let path = path_of(alloc, seq)?;

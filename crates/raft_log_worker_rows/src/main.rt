@@ -1,9 +1,10 @@
 //! Log files in memory, a row of text each: they are recovered by several workers and by one. Whether
-//! both leave the same, and whether two workers are at work at once.
+//! both leave the same, also where a log engine is opened so, and whether two workers are at work at once.
 #![tactic(auto)]
 
 mod compare;
 mod dice;
+mod engines;
 mod gates;
 mod queues;
 mod rows;

@@ -39,8 +39,8 @@ pub fn bytes_of(
     Ok(bytes)
 }
 
-// Of four files one is cut, and of one a byte is changed.
-fn damage(bytes: &mut Vec<u8>, dice: &mut Dice) {
+/// Of four files one is cut, and of one a byte is changed.
+pub fn damage(bytes: &mut Vec<u8>, dice: &mut Dice) {
     let len = bytes.len() as u64;
     match dice.below(4) {
         0 => bytes.truncate(dice.below(len.max(1)) as usize),

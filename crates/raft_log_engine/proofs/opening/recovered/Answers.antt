@@ -59,14 +59,14 @@ returns-in_err-pipes-clause-err g c =
     let d = g.F.FileSystem.disk c.args.files.now in
     let b = c.scan.new.self in
     let made = g.F.FileSystem.disk c.scan.new.files in
-    let new = g.F.FileSystem.disk c.recover_alone.new.files in
+    let new = g.F.FileSystem.disk c.recover_by.new.files in
     let at = c.in_ok-scan.ensures.directories ∙ ap (λ (k : Config). directories_of (settings_of k)) c.new-builder.ensures.config in
     let alike = ap (λ (k : Config). k.recovery_mode) (c.in_ok-scan.ensures.config ∙ c.new-builder.ensures.config) in
     let makes = subst (λ (k : Config). OnlyMakes (directories_of (settings_of k)) d made) c.new-builder.ensures.config c.in_ok-scan.ensures.only in
     let append = subst (λ (l : List Text). AreFound made (Log Append) l (names_in b Append)) (sym c.in_ok-scan.ensures.directories) c.in_ok-scan.ensures.append in
     let rewrite = subst (λ (l : List Text). AreFound made (Log Rewrite) l (names_in b Rewrite)) (sym c.in_ok-scan.ensures.directories) c.in_ok-scan.ensures.rewrite in
     at_err c.from_residual-in_err-pipes.result (IsLeftByOpening c.args.config.recovery_mode said d new)
-    (inr (both_left b c.args.config.recovery_mode said at alike d made makes new append rewrite c.recover_alone.ensures.leaves))
+    (inr (both_left b c.args.config.recovery_mode said at alike d made makes new append rewrite c.recover_by.ensures.leaves))
 
 pub returns-in_err-pipes-clause-reads : goal.returns-in_err-pipes-clause-reads
 returns-in_err-pipes-clause-reads g c =
@@ -74,12 +74,12 @@ returns-in_err-pipes-clause-reads g c =
     let d = g.F.FileSystem.disk c.args.files.now in
     let b = c.scan.new.self in
     let made = g.F.FileSystem.disk c.scan.new.files in
-    let new = g.F.FileSystem.disk c.recover_alone.new.files in
+    let new = g.F.FileSystem.disk c.recover_by.new.files in
     let at = c.in_ok-scan.ensures.directories ∙ ap (λ (k : Config). directories_of (settings_of k)) c.new-builder.ensures.config in
     let alike = ap (λ (k : Config). k.recovery_mode) (c.in_ok-scan.ensures.config ∙ c.new-builder.ensures.config) in
     let makes = subst (λ (k : Config). OnlyMakes (directories_of (settings_of k)) d made) c.new-builder.ensures.config c.in_ok-scan.ensures.only in
     at_err c.from_residual-in_err-pipes.result (IsFoundAgain c.args.config.recovery_mode said d new)
-    (both_again b c.args.config.recovery_mode said at alike d made makes new c.recover_alone.ensures.leaves)
+    (both_again b c.args.config.recovery_mode said at alike d made makes new c.recover_by.ensures.leaves)
 
 pub returns-in_err-traced-clause-err : goal.returns-in_err-traced-clause-err
 returns-in_err-traced-clause-err g c =
@@ -87,14 +87,14 @@ returns-in_err-traced-clause-err g c =
     let d = g.F.FileSystem.disk c.args.files.now in
     let b = c.scan.new.self in
     let made = g.F.FileSystem.disk c.scan.new.files in
-    let new = g.F.FileSystem.disk c.recover_alone.new.files in
+    let new = g.F.FileSystem.disk c.recover_by.new.files in
     let at = c.in_ok-scan.ensures.directories ∙ ap (λ (k : Config). directories_of (settings_of k)) c.new-builder.ensures.config in
     let alike = ap (λ (k : Config). k.recovery_mode) (c.in_ok-scan.ensures.config ∙ c.new-builder.ensures.config) in
     let makes = subst (λ (k : Config). OnlyMakes (directories_of (settings_of k)) d made) c.new-builder.ensures.config c.in_ok-scan.ensures.only in
     let append = subst (λ (l : List Text). AreFound made (Log Append) l (names_in b Append)) (sym c.in_ok-scan.ensures.directories) c.in_ok-scan.ensures.append in
     let rewrite = subst (λ (l : List Text). AreFound made (Log Rewrite) l (names_in b Rewrite)) (sym c.in_ok-scan.ensures.directories) c.in_ok-scan.ensures.rewrite in
     at_err c.from_residual-in_err-traced.result (IsLeftByOpening c.args.config.recovery_mode said d new)
-    (inr (both_left b c.args.config.recovery_mode said at alike d made makes new append rewrite c.recover_alone.ensures.leaves))
+    (inr (both_left b c.args.config.recovery_mode said at alike d made makes new append rewrite c.recover_by.ensures.leaves))
 
 pub returns-in_err-traced-clause-reads : goal.returns-in_err-traced-clause-reads
 returns-in_err-traced-clause-reads g c =
@@ -102,12 +102,12 @@ returns-in_err-traced-clause-reads g c =
     let d = g.F.FileSystem.disk c.args.files.now in
     let b = c.scan.new.self in
     let made = g.F.FileSystem.disk c.scan.new.files in
-    let new = g.F.FileSystem.disk c.recover_alone.new.files in
+    let new = g.F.FileSystem.disk c.recover_by.new.files in
     let at = c.in_ok-scan.ensures.directories ∙ ap (λ (k : Config). directories_of (settings_of k)) c.new-builder.ensures.config in
     let alike = ap (λ (k : Config). k.recovery_mode) (c.in_ok-scan.ensures.config ∙ c.new-builder.ensures.config) in
     let makes = subst (λ (k : Config). OnlyMakes (directories_of (settings_of k)) d made) c.new-builder.ensures.config c.in_ok-scan.ensures.only in
     at_err c.from_residual-in_err-traced.result (IsFoundAgain c.args.config.recovery_mode said d new)
-    (both_again b c.args.config.recovery_mode said at alike d made makes new c.recover_alone.ensures.leaves)
+    (both_again b c.args.config.recovery_mode said at alike d made makes new c.recover_by.ensures.leaves)
 
 pub returns-clause-ok : goal.returns-clause-ok
 returns-clause-ok g c =
@@ -115,7 +115,7 @@ returns-clause-ok g c =
     let d = g.F.FileSystem.disk c.args.files.now in
     let b = c.scan.new.self in
     let made = g.F.FileSystem.disk c.scan.new.files in
-    let new = g.F.FileSystem.disk c.recover_alone.new.files in
+    let new = g.F.FileSystem.disk c.recover_by.new.files in
     let at = c.in_ok-scan.ensures.directories ∙ ap (λ (k : Config). directories_of (settings_of k)) c.new-builder.ensures.config in
     let alike = ap (λ (k : Config). k.recovery_mode) (c.in_ok-scan.ensures.config ∙ c.new-builder.ensures.config) in
     let makes = subst (λ (k : Config). OnlyMakes (directories_of (settings_of k)) d made) c.new-builder.ensures.config c.in_ok-scan.ensures.only in
@@ -226,11 +226,11 @@ returns-in_err-pipes-clause-cause g c =
     let d = g.F.FileSystem.disk c.args.files.now in
     let builder = c.scan.new.self in
     let made = g.F.FileSystem.disk c.scan.new.files in
-    let new = g.F.FileSystem.disk c.recover_alone.new.files in
+    let new = g.F.FileSystem.disk c.recover_by.new.files in
     let free = g.F.FileSystem.is_bounded c.args.files.now in
     let a = g.F.FileSystem.meter c.args.files.now in
     let b = g.F.FileSystem.meter c.scan.new.files in
-    let e = g.F.FileSystem.meter c.recover_alone.new.files in
+    let e = g.F.FileSystem.meter c.recover_by.new.files in
     let at = c.in_ok-scan.ensures.directories ∙ ap (λ (k : Config). directories_of (settings_of k)) c.new-builder.ensures.config in
     let alike = ap (λ (k : Config). k.recovery_mode) (c.in_ok-scan.ensures.config ∙ c.new-builder.ensures.config) in
     let makes = subst (λ (k : Config). OnlyMakes (directories_of (settings_of k)) d made) c.new-builder.ensures.config c.in_ok-scan.ensures.only in
@@ -244,8 +244,8 @@ returns-in_err-pipes-clause-cause g c =
 
 pub returns-in_err-pipes-clause-taken : goal.returns-in_err-pipes-clause-taken
 returns-in_err-pipes-clause-taken g c =
-    free_opening c.args.config.recovery_mode (directories_of (settings_of c.args.config)) (g.F.FileSystem.disk c.args.files.now) (g.F.FileSystem.disk c.recover_alone.new.files) (g.F.FileSystem.is_bounded c.args.files.now)
-    (g.F.FileSystem.meter c.args.files.now) (g.F.FileSystem.meter c.recover_alone.new.files) None c.from_residual-in_err-pipes.result (returns-in_err-pipes-clause-cause g c)
+    free_opening c.args.config.recovery_mode (directories_of (settings_of c.args.config)) (g.F.FileSystem.disk c.args.files.now) (g.F.FileSystem.disk c.recover_by.new.files) (g.F.FileSystem.is_bounded c.args.files.now)
+    (g.F.FileSystem.meter c.args.files.now) (g.F.FileSystem.meter c.recover_by.new.files) None c.from_residual-in_err-pipes.result (returns-in_err-pipes-clause-cause g c)
 
 pub returns-in_err-traced-clause-later : goal.returns-in_err-traced-clause-later
 returns-in_err-traced-clause-later g c = no_more_then c.in_ok-scan.ensures.later c.in_ok-pipes.ensures.later
@@ -254,5 +254,5 @@ pub returns-in_err-traced-clause-taken : goal.returns-in_err-traced-clause-taken
 returns-in_err-traced-clause-taken g c =
     let said = directories_of (settings_of c.args.config) in
     let d = g.F.FileSystem.disk c.args.files.now in
-    let new = g.F.FileSystem.disk c.recover_alone.new.files in
+    let new = g.F.FileSystem.disk c.recover_by.new.files in
     λ nothing. told_cause c.from_residual-in_err-traced.result (fault.Log Memory) (λ (x : EngineFault). IsUnopenable None c.args.config.recovery_mode said d new x) c.from_residual-in_err-traced.ensures.1 tt

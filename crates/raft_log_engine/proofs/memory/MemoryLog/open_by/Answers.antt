@@ -22,41 +22,41 @@ use Rattle.raft_log_files.specs.Settings.{settings_fault, settings_of}
 use Rattle.raft_log_files.specs.declared.error.OtherFault.{OtherFault}
 use Rattle.raft_log_engine.specs.Unopened.{IsOpeningFault}
 use Rattle.raft_log_engine.proofs.Unopened.{free_fault}
-use Rattle.raft_log_engine.proofs.memory.MemoryLog.open.Goals as goal
+use Rattle.raft_log_engine.proofs.memory.MemoryLog.open_by.Goals as goal
 
 pub invariant_of-result : goal.invariant_of-result
-invariant_of-result c = record {
-  directories = c.in-Ok-open_alone.ensures.directories ∙ c.in-Ok.ensures.directories;
-  sound = λ on. c.in-Ok-open_alone.ensures.sound;
-  alone = λ on. c.in-Ok-open_alone.ensures.alone (c.in-Ok.ensures.once (disk_in c.args.files.files).names);
-  in_tail = subst (λ (l : List Text). OpensInTail l (disk_in c.in-Ok-open_alone.engine.files) c.in-Ok-open_alone.engine.pipes) (c.in-Ok-open_alone.ensures.directories ∙ c.in-Ok.ensures.directories)
-      (c.in-Ok-open_alone.ensures.opens_in_tail (c.in-Ok-open_alone.ensures.alone (c.in-Ok.ensures.once (disk_in c.args.files.files).names)));
+invariant_of-result g c = record {
+  directories = c.in-Ok-open_by.ensures.directories ∙ c.in-Ok.ensures.directories;
+  sound = λ on. c.in-Ok-open_by.ensures.sound;
+  alone = λ on. c.in-Ok-open_by.ensures.alone (c.in-Ok.ensures.once (disk_in c.args.files.files).names);
+  in_tail = subst (λ (l : List Text). OpensInTail l (disk_in c.in-Ok-open_by.engine.files) c.in-Ok-open_by.engine.pipes) (c.in-Ok-open_by.ensures.directories ∙ c.in-Ok.ensures.directories)
+      (c.in-Ok-open_by.ensures.opens_in_tail (c.in-Ok-open_by.ensures.alone (c.in-Ok.ensures.once (disk_in c.args.files.files).names)));
 }
 
-pub returns-in-Ok-open_alone-clause-leaves : goal.returns-in-Ok-open_alone-clause-leaves
-returns-in-Ok-open_alone-clause-leaves c =
-    let alone = c.in-Ok-open_alone.ensures.alone (c.in-Ok.ensures.once (disk_in c.args.files.files).names) in
-    leaves_only disk_in c.args.files.settings c.in-Ok-open_alone.engine false (answers_on disk_in c.in-Ok-open_alone.engine) (c.in-Ok-open_alone.ensures.directories ∙ c.in-Ok.ensures.directories) refl
-    (c.in-Ok-open_alone.ensures.opens alone)
+pub returns-in-Ok-open_by-clause-leaves : goal.returns-in-Ok-open_by-clause-leaves
+returns-in-Ok-open_by-clause-leaves g c =
+    let alone = c.in-Ok-open_by.ensures.alone (c.in-Ok.ensures.once (disk_in c.args.files.files).names) in
+    leaves_only disk_in c.args.files.settings c.in-Ok-open_by.engine false (answers_on disk_in c.in-Ok-open_by.engine) (c.in-Ok-open_by.ensures.directories ∙ c.in-Ok.ensures.directories) refl
+    (c.in-Ok-open_by.ensures.opens alone)
 
 pub returns-in-Err-clause-err : goal.returns-in-Err-clause-err
-returns-in-Err-clause-err c =
+returns-in-Err-clause-err g c =
     subst (λ (m : RecoveryMode). IsLeftByOpening m (main_directory c.args.files.settings) (disk_in c.args.files.files) (disk_in c.in-Err.field-0.files)) c.in-Ok.ensures.mode
     (subst (λ (l : List Text). IsLeftByOpening c.in-Ok.config.recovery_mode l (disk_in c.args.files.files) (disk_in c.in-Err.field-0.files)) c.in-Ok.ensures.directories c.in-Err.ensures.err)
 
 pub returns-in-Err-clause-reads : goal.returns-in-Err-clause-reads
-returns-in-Err-clause-reads c =
+returns-in-Err-clause-reads g c =
     subst (λ (m : RecoveryMode). IsFoundAgain m (main_directory c.args.files.settings) (disk_in c.args.files.files) (disk_in c.in-Err.field-0.files)) c.in-Ok.ensures.mode
     (subst (λ (l : List Text). IsFoundAgain c.in-Ok.config.recovery_mode l (disk_in c.args.files.files) (disk_in c.in-Err.field-0.files)) c.in-Ok.ensures.directories c.in-Err.ensures.reads)
 
 pub returns-in-Err-clause-corrupt : goal.returns-in-Err-clause-corrupt
-returns-in-Err-clause-corrupt c =
+returns-in-Err-clause-corrupt g c =
     along (λ m l. (f : CorruptionFault) → c.in-Err.field-0.fault ≡ fault.Log (Corruption f) → (queue : LogQueue) × CantBeOpened m l queue (disk_in c.args.files.files)) c.in-Ok.ensures.mode c.in-Ok.ensures.directories c.in-Err.ensures.corrupt
 
-pub returns-in-Ok-open_alone-clause-opens_in_tail : goal.returns-in-Ok-open_alone-clause-opens_in_tail
-returns-in-Ok-open_alone-clause-opens_in_tail c =
-    let alone = c.in-Ok-open_alone.ensures.alone (c.in-Ok.ensures.once (disk_in c.args.files.files).names) in
-    subst (λ (l : List Text). OpensInTail l (disk_in c.in-Ok-open_alone.engine.files) c.in-Ok-open_alone.engine.pipes) (c.in-Ok-open_alone.ensures.directories ∙ c.in-Ok.ensures.directories) (c.in-Ok-open_alone.ensures.opens_in_tail alone)
+pub returns-in-Ok-open_by-clause-opens_in_tail : goal.returns-in-Ok-open_by-clause-opens_in_tail
+returns-in-Ok-open_by-clause-opens_in_tail g c =
+    let alone = c.in-Ok-open_by.ensures.alone (c.in-Ok.ensures.once (disk_in c.args.files.files).names) in
+    subst (λ (l : List Text). OpensInTail l (disk_in c.in-Ok-open_by.engine.files) c.in-Ok-open_by.engine.pipes) (c.in-Ok-open_by.ensures.directories ∙ c.in-Ok.ensures.directories) (c.in-Ok-open_by.ensures.opens_in_tail alone)
 
 -- ---- as the settings say
 
@@ -64,22 +64,22 @@ returns-in-Ok-open_alone-clause-opens_in_tail c =
 abbrev plain_format : Version → LogFileFormat
 plain_format version = record { version = version; alignment = 0 }
 
-pub returns-in-Ok-open_alone-clause-set : goal.returns-in-Ok-open_alone-clause-set
-returns-in-Ok-open_alone-clause-set c =
-    let set = c.in-Ok-open_alone.ensures.settings in
+pub returns-in-Ok-open_by-clause-set : goal.returns-in-Ok-open_by-clause-set
+returns-in-Ok-open_by-clause-set g c =
+    let set = c.in-Ok-open_by.ensures.settings in
     let sizes = c.in-Ok.ensures.sizes in (
       (set.0.0 ∙ ap (λ (x : ReadableSize). x.0) sizes.0, set.0.1 ∙ ap plain_format sizes.1),
       (set.1.0 ∙ ap (λ (x : ReadableSize). x.0) sizes.0, set.1.1 ∙ ap plain_format sizes.1),
     )
 
-pub returns-in-Ok-open_alone-clause-holes : goal.returns-in-Ok-open_alone-clause-holes
-returns-in-Ok-open_alone-clause-holes c =
-    subst (λ (m : RecoveryMode). HasHolesIn m (disk_in c.in-Ok-open_alone.engine.files) c.in-Ok-open_alone.engine.pipes) c.in-Ok.ensures.mode c.in-Ok-open_alone.ensures.holes
+pub returns-in-Ok-open_by-clause-holes : goal.returns-in-Ok-open_by-clause-holes
+returns-in-Ok-open_by-clause-holes g c =
+    subst (λ (m : RecoveryMode). HasHolesIn m (disk_in c.in-Ok-open_by.engine.files) c.in-Ok-open_by.engine.pipes) c.in-Ok.ensures.mode c.in-Ok-open_by.ensures.holes
 
 -- ---- why it is refused
 
 pub returns-in-Err-clause-cause : goal.returns-in-Err-clause-cause
-returns-in-Err-clause-cause c =
+returns-in-Err-clause-cause g c =
     let d = disk_in c.args.files.files in
     let left = disk_in c.in-Err.field-0.files in
     let free = is_bounded_in c.args.files.files in
@@ -89,6 +89,6 @@ returns-in-Err-clause-cause c =
     (along (λ m l. IsOpeningFault (settings_fault (settings_of c.in-Ok.config)) m l d left free a b c.in-Err.field-0.fault) c.in-Ok.ensures.mode c.in-Ok.ensures.directories c.in-Err.ensures.cause)
 
 pub returns-in-Err-clause-taken : goal.returns-in-Err-clause-taken
-returns-in-Err-clause-taken c = λ free.
+returns-in-Err-clause-taken g c = λ free.
     free_fault c.args.files.settings.recovery_mode (main_directory c.args.files.settings) (disk_in c.args.files.files) (disk_in c.in-Err.field-0.files) (is_bounded_in c.args.files.files) (meter_in c.args.files.files)
-    (meter_in c.in-Err.field-0.files) (settings_fault (settings_of c.args.files.settings)) free c.in-Err.field-0.fault (returns-in-Err-clause-cause c)
+    (meter_in c.in-Err.field-0.files) (settings_fault (settings_of c.args.files.settings)) free c.in-Err.field-0.fault (returns-in-Err-clause-cause g c)

@@ -11,7 +11,7 @@ use Rattle.raft_log_engine.proofs.Reopened.{kept_opens}
 use Rattle.raft_log_engine.proofs.Since.{nothing_since}
 use Rattle.raft_log_blocks.proofs.HeldLemmas.{answered, kept_held}
 use Rattle.raft_log_engine.proofs.Tails.{held_in_tail}
-use Rattle.raft_log_engine.proofs.engine.Engine.open_alone.Goals as goal
+use Rattle.raft_log_engine.proofs.engine.Engine.open_by.Goals as goal
 
 pub returns-in-Ok-clause-answers : goal.returns-in-Ok-clause-answers
 returns-in-Ok-clause-answers g c =
