@@ -41,13 +41,6 @@ told_text outcomes = drop 2 (outcome_text (Done (map without_frames outcomes)))
 abbrev pub done_text : List Outcome → List ℕ
 done_text outcomes = codes "ok" ++ sent_text outcomes ++ told_text outcomes
 
--- the groups that are to be compacted behind a cleaning
-abbrev pub compacts_text : List ℕ → List ℕ
-compacts_text groups = flat_map (λ (g : ℕ). codes " compact " ++ decimal g) groups
-
-abbrev pub cleaned_text : List ℕ → List ℕ
-cleaned_text groups = codes "ok" ++ compacts_text groups ++ newline
-
 -- a stop, with the tokens that stay unknown
 abbrev pub stop_text : List UnknownTokens → List ℕ
 stop_text unknown = outcome_text (Stopped (record { cause = Other; unsaid = None; unknown = unknown }))

@@ -1,7 +1,6 @@
 //! The text of what a node answers.
 ghost use Rattle.std.specs.Prelude.{◌≡◌, ◌++◌, IfOk, OnOk, [], drop, map, string_bytes};
-ghost use Rattle.raft_node_script.specs.Answers.{IsOneLineOf, cleaned_text, compacts_text};
-ghost use Rattle.raft_node_script.specs.Answers.{done_text, fault_text, frame_text, frames_text, named_text, sent_text, stop_text, told_text, unopened_text, without_frames};
+ghost use Rattle.raft_node_script.specs.Answers.{IsOneLineOf, done_text, fault_text, frame_text, frames_text, named_text, sent_text, stop_text, told_text, unopened_text, without_frames};
 
 use crate::home::HomeRefusal;
 use itoa::Buffer;
@@ -79,28 +78,6 @@ pub fn done_text(alloc: Global, outcomes: Vec<Outcome>) -> Result<String, AllocE
     let parts = parts_of(alloc, outcomes)?;
     let told = outcome_text(alloc, &EventOutcome::Done(parts))?;
     push_told(&mut text, told.as_str())?;
-    Ok(text)
-}
-
-// The text, and behind it the groups that are to be compacted.
-fn push_compacts(text: &mut String, groups: &[u64]) -> Result<(), AllocError>
-    ensures { OnOk result (string_bytes text.new ≡ string_bytes text.old ++ compacts_text groups.now) }
-{
-    for group in groups {
-        let mut digits = Buffer::new();
-        text.push_str(" compact ")?;
-        text.push_str(digits.format(*group))?;
-    }
-    Ok(())
-}
-
-/// What a cleaning answers: the groups that are to be compacted (own).
-pub fn cleaned_text(alloc: Global, groups: &[u64]) -> Result<String, AllocError>
-    ensures { IfOk result (λ text. string_bytes text ≡ cleaned_text groups.now) }
-{
-    let mut text = String::from_str(alloc, "ok")?;
-    push_compacts(&mut text, groups)?;
-    text.push_str("\n")?;
     Ok(text)
 }
 

@@ -21,8 +21,6 @@ pub enum NodeLine {
     Ask { group: u64, call: GroupCommand },
     /// `feed PEER HEX`: these bytes are the next of the peer's stream.
     Feed { peer: u64, piece: Vec<u8> },
-    /// `clean`: what counts no more in the log's files goes, where it is time for that.
-    Clean,
     /// `reopen WORKERS`: the node is closed, and opened with what is stored.
     Reopen,
 }
@@ -41,7 +39,7 @@ fn is_of_all(word: &str) -> bool {
 
 // Whether no line of a node's script begins with this word.
 fn is_foreign(word: &str) -> bool {
-    matches!(word, "nodes" | "deliver" | "crash" | "fuse")
+    matches!(word, "nodes" | "deliver" | "clean" | "crash" | "fuse")
 }
 
 // The line with the node behind its first word.
@@ -99,10 +97,6 @@ fn event_line(
     event: ScriptEvent,
 ) -> Result<Option<ReadNodeLine>, AllocError> {
     let tokens = tokens_behind(&event, tokens);
-    if let ScriptEvent::Clean { .. } = &event {
-        let line = NodeLine::Clean;
-        return Ok(Some(ReadNodeLine { line, tokens }));
-    }
     let Some(event) = event_of(alloc, tick, tokens, event)? else {
         return Ok(None);
     };
