@@ -81,5 +81,5 @@ appends_unmarked (p ∷ appends) of_queue none =
 pub all_unmarked : (rewrites appends : List Placed) → AreOf Append appends → any_marked (rewrites ++ appends) ≡ false → AreUnmarked (batches_of (filed_in appends))
 all_unmarked rewrites appends of_queue none =
     let both = or_parts (any_marked rewrites) (any_marked appends)
-        (sym (list_any-append (λ (q : Placed). is_marked_in q.handle.id.queue q.items) rewrites appends) ∙ none) in
+    (sym (list_any-append (λ (q : Placed). is_marked_in q.handle.id.queue q.items) rewrites appends) ∙ none) in
     appends_unmarked appends of_queue both.1
