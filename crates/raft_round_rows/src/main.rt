@@ -1,8 +1,9 @@
 //! Runs rounds of events on clusters of three nodes on files, each beside a cluster that runs the same
-//! events one after another. A line `== NAME` begins two clusters anew. A line `random SEED COUNT` runs
-//! so many random rounds. Each other line is a round: lines of a script with `; ` between them. It is
-//! answered by what came of its events, and by `differs` where the two clusters aren't the same then.
-//! At the end the writes of two nodes wait for each other, in a round and one after another.
+//! events one after another; both keep the list of each group. A line `== NAME` begins two clusters
+//! anew. A line `random SEED COUNT` runs so many random rounds. Each other line is a round: lines of a
+//! script with `; ` between them. It is answered by what came of its events, and by `differs` where the
+//! two clusters or their lists aren't the same then. At the end the writes of two nodes wait for each
+//! other, in a round and one after another.
 #![tactic(auto)]
 
 mod gates;

@@ -1,15 +1,20 @@
 //! Two clusters that are to stay the same.
-use raft_cluster::{Cluster, ClusterEvent, RoundRefusal};
 use raft_cluster_events::ClusterNode;
 use raft_cluster_script::{event_of, outcome_text};
+use raft_listed_cluster::{ClusterEvent, ListedCluster, RoundRefusal};
 use raft_machines::AddingMachine;
-use raft_nodes_on_files::{FileNode, log_settings};
-use raft_script_lines::{ScriptLine, read_line};
+use raft_nodes_on_files::{FileNode, log_settings, run_on_files, run_round_on_files};
+use raft_script_lines::{ReadLineError, ScriptLine, read_line};
 use std::alloc::{AllocError, Global};
 use std::thread::Threads;
 
-/// A cluster of nodes on files.
-pub type Files = Cluster<FileNode<AddingMachine>>;
+/// A cluster of nodes on files, with the list of each group.
+pub type Files = ListedCluster<FileNode<AddingMachine>>;
+
+/// The first group that lines name, and the one behind the last.
+const FIRST: u64 = 7;
+
+const END: u64 = 10;
 
 /// One cluster runs rounds, and the other one the same events one after another.
 #[derive(Drop)]
@@ -23,7 +28,7 @@ pub struct Pair {
 
 fn cluster(alloc: Global) -> Result<Files, AllocError> {
     let settings = log_settings(alloc, "raft", 64, 256)?;
-    Cluster::new(alloc, &[1, 2, 3], &settings)
+    ListedCluster::new(alloc, &[1, 2, 3], &settings)
 }
 
 /// The total of a group at a node.
@@ -53,6 +58,7 @@ impl Pair {
                 self.tokens = self.tokens.wrapping_add(1);
                 event_of(self.alloc, self.tick, self.tokens, event)
             }
+            Err(ReadLineError::Memory) => Err(AllocError),
             _ => Ok(None),
         }
     }
@@ -68,14 +74,49 @@ impl Pair {
         Ok(events)
     }
 
-    /// Whether both clusters have the same history, frames and totals.
+    // Whether both clusters have the same list of a group.
+    fn has_same_list(&self, group: u64) -> Result<bool, AllocError> {
+        let count = self.rounds.list_len(group);
+        if count != self.alone.list_len(group) {
+            return Ok(false);
+        }
+        for place in 0..count {
+            let rounds = format!(in self.alloc; "{:?}", self.rounds.entry(group, place))?;
+            let alone = format!(in self.alloc; "{:?}", self.alone.entry(group, place))?;
+            if rounds != alone {
+                return Ok(false);
+            }
+        }
+        Ok(true)
+    }
+
+    /// Whether both clusters have the same lists.
+    pub fn has_same_lists(&self) -> Result<bool, AllocError> {
+        for group in FIRST..END {
+            if !self.has_same_list(group)? {
+                return Ok(false);
+            }
+        }
+        Ok(true)
+    }
+
+    /// How many entries the lists have, all together.
+    pub fn entries(&self) -> usize {
+        let mut count: usize = 0;
+        for group in FIRST..END {
+            count = count.saturating_add(self.rounds.list_len(group));
+        }
+        count
+    }
+
+    /// Whether both clusters have the same history, frames, totals and lists.
     pub fn is_same(&self) -> Result<bool, AllocError> {
         let rounds = format!(in self.alloc; "{:?}", self.rounds.history())?;
         let alone = format!(in self.alloc; "{:?}", self.alone.history())?;
         if rounds != alone {
             return Ok(false);
         }
-        for group in 6..10 {
+        for group in FIRST..END {
             let rounds = format!(in self.alloc; "{:?}", self.rounds.frames(group))?;
             let alone = format!(in self.alloc; "{:?}", self.alone.frames(group))?;
             if rounds != alone {
@@ -88,7 +129,7 @@ impl Pair {
                 }
             }
         }
-        Ok(true)
+        self.has_same_lists()
     }
 
     // What came of the rounds' events from this one on.
@@ -111,9 +152,9 @@ impl Pair {
         self.tokens = tokens;
         let same = self.events(line)?;
         let at = self.rounds.history().len();
-        match self.rounds.run_round(rt, events) {
+        match run_round_on_files(rt, &mut self.rounds, events) {
             Ok(count) => {
-                if self.alone.run(same) == count {
+                if run_on_files(&mut self.alone, same) == count {
                     self.outcomes(at)
                 } else {
                     String::from_str(self.alloc, "another number")
@@ -124,9 +165,15 @@ impl Pair {
         }
     }
 
-    /// A line is a round. What came of it is answered, and whether the clusters aren't the same then.
+    /// A line is a round. What came of it is answered, how many entries the lists have where that is
+    /// another number than before, and whether the clusters aren't the same then.
     pub fn line<R: Threads + Sync>(&mut self, rt: &R, line: &str) -> Result<String, AllocError> {
+        let before = self.entries();
         let mut text = self.round(rt, line)?;
+        let entries = self.entries();
+        if entries != before {
+            text.push_str(format!(in self.alloc; ", {entries} entries")?.as_str())?;
+        }
         if !self.is_same()? {
             text.push_str(" differs")?;
         }

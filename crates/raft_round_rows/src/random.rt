@@ -52,9 +52,11 @@ fn call(alloc: Global, dice: &mut Dice, node: u64, group: u64) -> Result<String,
         2 => format!(in alloc; "init {node} {group} 1 2"),
         3 | 4 => format!(in alloc; "elect {node} {group}"),
         5 => format!(in alloc; "heartbeat {node} {group}"),
-        6 => format!(in alloc; "crash {node} least"),
-        7 => format!(in alloc; "crash {node} most"),
-        8 | 9 => format!(in alloc; "reopen {node} 1"),
+        6 => {
+            let choice = ["least", "most"][dice.below(2) as usize];
+            format!(in alloc; "crash {node} {choice}")
+        }
+        7 | 8 | 9 => format!(in alloc; "reopen {node} 1"),
         10 => format!(in alloc; "snapshot {node} {group}"),
         11 => format!(in alloc; "lost {node} {group} {}", node % 3 + 1),
         12 => format!(in alloc; "elect {} {group}", node.wrapping_add(3)),
@@ -98,8 +100,9 @@ fn two_numbers(text: &str) -> Option<(u64, u64)> {
     Some((number_of(first)?, number_of(second)?))
 }
 
-/// So many random rounds from a seed. It is answered how many events happened and how many rounds were
-/// refused.
+/// So many random rounds from a seed. It is answered how many events happened, how many rounds were
+/// refused, and how many entries the lists have. They are compared behind each round, all else at the
+/// end.
 pub fn run_random<R: Threads + Sync>(
     rt: &R,
     alloc: Global,
@@ -111,17 +114,24 @@ pub fn run_random<R: Threads + Sync>(
     };
     let mut dice = Dice { state: seed };
     let mut refused: u64 = 0;
+    let mut lists_differ = false;
     for _ in 0..count {
         let events = line(alloc, &pair.rounds, &mut dice)?;
         if pair.round(rt, events.as_str())?.starts_with("C8") {
             refused = u64::wrapping_add(refused, 1);
         }
+        if !pair.has_same_lists()? {
+            lists_differ = true;
+        }
     }
-    let text = if pair.is_same()? {
+    let text = if pair.is_same()? && !lists_differ {
         "the same"
     } else {
         "differs"
     };
     let events = pair.rounds.history().len();
-    format!(in alloc; "{count} rounds, {refused} refused, {events} events: {text}")
+    let entries = pair.entries();
+    format!(in alloc;
+        "{count} rounds, {refused} refused, {events} events, {entries} entries: {text}"
+    )
 }
