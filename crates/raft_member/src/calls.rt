@@ -18,11 +18,12 @@ use crate::facts::{facts_of, membership_in_force};
 use crate::member::{Broken, ByteGroup, Ended, Member};
 use raft_conditions::{GroupCommand, changed_membership};
 use raft_engine::Engine;
-use raft_executor::meta_of;
+use raft_executor::{SendingTimes, meta_of};
 use raft_group_step::GroupCall;
 use raft_group_storage::GroupStorage;
 use raft_state::{BasicNode, Bytes, ChangeMembers, Membership};
 use std::alloc::{AllocError, Global};
+use std::mem;
 
 // The leader takes what the change makes of the membership in force.
 fn change(
@@ -247,11 +248,24 @@ impl Member {
         ensures down { self.old.engine ≡ None → (result ≡ Ok Skipped) × (self.new ≡ self.old) × KeepsAll (S.shows storage.old) (S.shows storage.new) }
         ensures others { KeepsOthers (S.shows storage.old) (S.shows storage.new) group }
     {
-        let Some(mut engine) = self.engine.take() else {
+        let Some(engine) = &mut self.engine else {
             return Ok(Ended::Skipped);
         };
-        let ended = self.call(alloc, &mut engine, call, built, now, stop, storage, group)?;
-        self.put_back(engine, &ended);
-        Ok(ended)
+        let mut beside = Member {
+            id: self.id,
+            engine: None,
+            moment: self.moment,
+            sendings: mem::replace(&mut self.sendings, SendingTimes::none()),
+        };
+        match beside.call(alloc, engine, call, built, now, stop, storage, group) {
+            Ok(ended) => {
+                self.join(&mut beside, &ended);
+                Ok(ended)
+            }
+            Err(met) => {
+                *self = beside;
+                Err(met)
+            }
+        }
     }
 }

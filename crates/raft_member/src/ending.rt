@@ -1,5 +1,5 @@
 //! The end of an event: what the queue asks for is stored and sent.
-ghost use Rattle.std.specs.Prelude.{◌≡◌, ℕ, IfOk, None, OnErr, OnOk};
+ghost use Rattle.std.specs.Prelude.{◌≡◌, ℕ, IfOk, None, OnErr, OnOk, Some};
 ghost use Rattle.std.specs.Option.{option_copied};
 ghost use Rattle.raft_group_step.specs.StoredGroup.{StoredGroup as Stored};
 ghost use Rattle.raft_group_step.specs.GroupState.{GroupState};
@@ -8,7 +8,7 @@ ghost use Rattle.raft_engine.specs.Standing.{IsStateOf};
 ghost use Rattle.raft_executor.specs.SendingTimes.{sent_at, time_after};
 ghost use Rattle.raft_group_storage.specs.Keeping.{KeepsOthers};
 ghost use Rattle.raft_member.specs.Hearing.{IsOver};
-ghost use Rattle.raft_member.specs.Member.{IsDown, IsIdle};
+ghost use Rattle.raft_member.specs.Member.{Engine as Running, IsDown, IsIdle};
 ghost use Rattle.raft_member.specs.Running.{HasHalted, IsRun, RunsTo, left_by};
 
 use crate::member::{ByteGroup, Ended, Member};
@@ -16,6 +16,7 @@ use raft_engine::Engine;
 use raft_executor::{Sender, messages, store_first};
 use raft_group_storage::GroupStorage;
 use std::alloc::Global;
+use std::mem;
 
 // The engine has nothing left to do.
 fn come_to_rest(engine: &mut Engine<ByteGroup>)
@@ -42,6 +43,20 @@ impl Member {
         match ended {
             Ended::Done(_) | Ended::Refused(_) => self.engine = Some(engine),
             Ended::Stopped | Ended::Skipped => {}
+        }
+    }
+
+    // What an event left of the member beside its engine, which stayed in its place, goes back, unless
+    // the event stopped: then the engine goes, too. So an engine isn't moved for an event.
+    pub(crate) fn join<X>(&mut self, beside: &mut Member, ended: &Ended<X>)
+        ensures { (e : Running) → self.old.engine ≡ Some e → beside.old.id ≡ self.old.id → self.new ≡ left_by ended.now e beside.old }
+    {
+        match ended {
+            Ended::Done(_) | Ended::Refused(_) => {
+                self.moment = beside.moment;
+                mem::swap(&mut self.sendings, &mut beside.sendings);
+            }
+            Ended::Stopped | Ended::Skipped => mem::swap(self, beside),
         }
     }
 

@@ -22,11 +22,12 @@ use crate::facts::facts_of;
 use crate::member::{ByteGroup, Ended, Member};
 use raft_conditions::{GroupFacts, Parties, Refusal};
 use raft_engine::{AppendEntriesRequest, Caller, Engine, RequestId};
-use raft_executor::{caller_and_answer, caller_id, meta_of};
+use raft_executor::{SendingTimes, caller_and_answer, caller_id, meta_of};
 use raft_group_storage::GroupStorage;
 use raft_messages::{AppendFields, Message, MessageBody, ReplyFields, copies_of, last_sent};
 use raft_state::Vote;
 use std::alloc::{AllocError, Global};
+use std::mem;
 
 // Why the message is refused, if it is.
 fn message_refusal<S: GroupStorage>(
@@ -257,11 +258,24 @@ impl Member {
         ensures down { self.old.engine ≡ None → (result ≡ Ok Skipped) × (self.new ≡ self.old) × KeepsAll (S.shows storage.old) (S.shows storage.new) }
         ensures others { KeepsOthers (S.shows storage.old) (S.shows storage.new) group }
     {
-        let Some(mut engine) = self.engine.take() else {
+        let Some(engine) = &mut self.engine else {
             return Ok(Ended::Skipped);
         };
-        let ended = self.message(alloc, &mut engine, message, now, stop, storage, group)?;
-        self.put_back(engine, &ended);
-        Ok(ended)
+        let mut beside = Member {
+            id: self.id,
+            engine: None,
+            moment: self.moment,
+            sendings: mem::replace(&mut self.sendings, SendingTimes::none()),
+        };
+        match beside.message(alloc, engine, message, now, stop, storage, group) {
+            Ok(ended) => {
+                self.join(&mut beside, &ended);
+                Ok(ended)
+            }
+            Err(met) => {
+                *self = beside;
+                Err(met)
+            }
+        }
     }
 }
