@@ -1,12 +1,12 @@
 -- Calls that keep pipes beside their batches, one after the other.
-use Rattle.std.proofs.Common.{◌≡◌, refl, sym, ap, ◌∙◌}
+use Rattle.std.proofs.Common.{◌≡◌, refl, ap, ◌∙◌}
 use Rattle.std.specs.Prelude.{Result, Ok, Err, OnOk, OnErr}
 use Rattle.raft_log_disk.specs.Disk.{Disk}
 use Rattle.raft_log_pipe.specs.declared.pipe.SinglePipe.{SinglePipe}
 use Rattle.raft_log_pipe.specs.Alone.{IsAlone, IsNearlyAlone}
 use Rattle.raft_log_pipe.specs.Kept.{KeepsSettings}
 use Rattle.raft_log_pipe.specs.Pipe.{Holds, Numbered}
-use Rattle.raft_log_pipe.specs.Torn.{IsTornAtEnd, TearsAtEnd}
+use Rattle.raft_log_pipe.specs.Torn.{TearsAtEnd}
 use Rattle.raft_log_pipe.proofs.AloneLemmas.{alone_on, nearly}
 use Rattle.raft_log_pipe.proofs.TornLemmas.{held_torn}
 use Rattle.raft_log_pipes.specs.declared.pipes.DualPipes.{DualPipes}
@@ -29,7 +29,7 @@ pipe_as_before p q d e before = record {
 pub pipe_on : (p q : SinglePipe) (d e : Disk) → (q.active ≡ p.active) × (q.older ≡ p.older) × (q.queue ≡ p.queue) → KeepsSettings p q → q.paths ≡ p.paths → e.names ≡ d.names → KeepsPipe p d q e
 pipe_on p q d e same set paths names = record { set = set; paths = paths; alone = alone_on p q d e same paths names }
 
-pipe_then : (p q r : SinglePipe) (d e f : Disk) → KeepsPipe p d q e → KeepsPipe q e r f → KeepsPipe p d r f
+pub pipe_then : (p q r : SinglePipe) (d e f : Disk) → KeepsPipe p d q e → KeepsPipe q e r f → KeepsPipe p d r f
 pipe_then p q r d e f one two = record {
   set = (two.set.0 ∙ one.set.0, two.set.1 ∙ one.set.1);
   paths = two.paths ∙ one.paths;

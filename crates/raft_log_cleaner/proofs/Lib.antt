@@ -7,3 +7,6 @@ mod Ends
 mod Chunks
 mod Gone
 mod Calls
+mod Counting
+mod Judged
+mod Telling

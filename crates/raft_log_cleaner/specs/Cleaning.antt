@@ -1,6 +1,5 @@
 -- What a cleaning of the log stands on, from one record of the rewrite queue to the next, and what is left where it is refused.
-use Rattle.std.specs.Prelude.{◌≡◌, ◌⊎◌, ◌≤◌, ℕ, List, [], ◌++◌, map, take, IfSome, IsSome, Option, Result, OnOk, OnErr}
-use Rattle.raft_log_records.specs.declared.item.EntryIndex.{EntryIndex}
+use Rattle.std.specs.Prelude.{◌≡◌, ◌⊎◌, ◌≤◌, ℕ, List, [], ◌++◌, map, take, IfSome, Option, Result, OnOk, OnErr}
 use Rattle.raft_log_disk.specs.Disk.{Disk}
 use Rattle.raft_log_file.specs.Laws.{Batch}
 use Rattle.raft_log_pipe.specs.Pipe.{Holds, Leaves, Numbered, first_of}

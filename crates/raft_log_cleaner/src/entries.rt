@@ -25,7 +25,7 @@ use raft_log_traces::{GroupTrace, GroupTraces};
 use std::alloc::{AllocError, Global};
 
 /// The number, or the greatest one that an index may have.
-fn as_index(index: u128) -> u64
+pub(crate) fn as_index(index: u128) -> u64
     ensures least { result ≤ index }
     ensures same { result < 2 ^ 64 - 1 → result ≡ index }
 {

@@ -3,8 +3,10 @@
 #![tactic(auto)]
 
 mod entries;
+mod facts;
 mod fault;
 mod manager;
+mod plan;
 mod writer;
 
 pub use fault::of_record;

@@ -1,16 +1,24 @@
 //! When the log is cleaned, and how.
 
-ghost use Rattle.std.specs.Prelude.{◌≡◌, ◌+◌, IfOk, OnErr, OnOk};
+ghost use Rattle.std.specs.Prelude.{◌≡◌, ◌+◌, ◌<◌, ◌^◌, ℕ, [], IfNone, IfOk, IfSome, OnErr, OnOk};
 ghost use Rattle.raft_log_cleaner.specs.Cleaning.{CanCleanSome, Cleans, Finishes, GoesOn, IsCleaningSome, KeepsFromBarrier};
+ghost use Rattle.raft_log_cleaner.specs.Facts.{TellEntries};
 ghost use Rattle.raft_log_cleaner.specs.Pipes.{KeepsPipe, KeepsPipes, LeavesPipes};
+ghost use Rattle.raft_log_cleaner.specs.Told.{AreTold, marks_of_pipe, queue_of};
 ghost use Rattle.raft_log_disk.specs.Cause.{RefusesNoMore};
+ghost use Rattle.raft_log_memtables.specs.MemTables.{content_in};
 ghost use Rattle.raft_log_pipe.specs.Pipe.{first_of};
+ghost use Rattle.raft_log_pipes.specs.Pipes.{IsAsBefore};
+ghost use Rattle.raft_log_purge.specs.Due.{IsLarge};
+ghost use Rattle.raft_log_purge.specs.Reports.{count_in};
+ghost use Rattle.raft_log_traces.specs.GroupTraces.{traces_in};
 
 use crate::entries::{mark, rewrite_group};
+use crate::plan::{Plan, plan_of};
 use crate::writer::Writer;
 use raft_log_files::{Error, FileSystem};
 use raft_log_pipes::DualPipes;
-use raft_log_purge::let_go;
+use raft_log_purge::{Reports, Watermarks, files_of, is_large, let_go, watermarks_of};
 use raft_log_records::{FileSeq, LogQueue};
 use raft_log_traced::TracedTables;
 use std::alloc::{AllocError, Global};
@@ -81,6 +89,7 @@ fn rewrite_groups<F: FileSystem>(
 ) -> Result<(), Error>
     requires { CanCleanSome (F.disk files.old) pipes.old log.old }
     ensures cleans { Cleans (F.disk files.old) pipes.old log.old (F.disk files.new) pipes.new log.new result }
+    ensures append { IsAsBefore pipes.old.append (F.disk files.old) pipes.new.append (F.disk files.new) }
     ensures kept { OnOk result (KeepsPipes (F.disk files.old) pipes.old (F.disk files.new) pipes.new) }
     ensures left { OnErr result (LeavesPipes (F.disk files.old) pipes.old (F.disk files.new) pipes.new) }
     ensures later { RefusesNoMore (F.is_bounded files.old) (F.is_bounded files.new) (F.meter files.old) (F.meter files.new) }
@@ -110,14 +119,24 @@ fn mark_groups<F: FileSystem>(
     finish(files, pipes, log, &mut writer)
 }
 
-/// The groups that are there, and those that were cleaned and have no mark yet before a file.
-fn groups_of(log: &TracedTables, before: FileSeq) -> Result<Vec<u64>, AllocError> {
-    let mut groups = log.tables.groups()?;
+/// Behind other groups, those that were cleaned and have no mark yet before a file.
+fn push_cleaned(
+    log: &TracedTables,
+    before: FileSeq,
+    groups: &mut Vec<u64>,
+) -> Result<(), AllocError> {
     for group in log.traces.groups_before(before)? {
         if !log.tables.has_group(group) {
             groups.push(group)?;
         }
     }
+    Ok(())
+}
+
+/// The groups that are there, and those that were cleaned and have no mark yet before a file.
+fn groups_of(log: &TracedTables, before: FileSeq) -> Result<Vec<u64>, AllocError> {
+    let mut groups = log.tables.groups()?;
+    push_cleaned(log, before, &mut groups)?;
     Ok(groups)
 }
 
@@ -167,6 +186,73 @@ fn clean_groups<F: FileSystem>(
     }
 }
 
+/// Lets the append files go that no group needs any more, up to before the barrier.
+fn let_files_go<F: FileSystem>(
+    files: &mut F,
+    pipes: &mut DualPipes,
+    log: &TracedTables,
+    barrier: Option<FileSeq>,
+) -> Result<u64, Error>
+    requires { CanCleanSome (F.disk files.old) pipes.old log.now }
+    ensures cleans { Cleans (F.disk files.old) pipes.old log.now (F.disk files.new) pipes.new log.now result }
+    ensures barrier { KeepsFromBarrier barrier pipes.old pipes.new }
+    ensures count { IfOk result (λ n. first_of pipes.old.append + n ≡ first_of pipes.new.append) }
+    ensures kept { KeepsPipe pipes.old.rewrite (F.disk files.old) pipes.new.rewrite (F.disk files.new) }
+    ensures later { RefusesNoMore (F.is_bounded files.old) (F.is_bounded files.new) (F.meter files.old) (F.meter files.new) }
+{
+    let_go(files, pipes, &log.traces, barrier)
+}
+
+/// Rewrites groups before a file of the append queue, and lets the files go that no group needs then.
+fn clean_planned<F: FileSystem>(
+    alloc: Global,
+    files: &mut F,
+    pipes: &mut DualPipes,
+    log: &mut TracedTables,
+    groups: &[u64],
+    before: FileSeq,
+    barrier: Option<FileSeq>,
+) -> Result<u64, Error>
+    requires { CanCleanSome (F.disk files.old) pipes.old log.old }
+    ensures cleans { Cleans (F.disk files.old) pipes.old log.old (F.disk files.new) pipes.new log.new result }
+    ensures barrier { KeepsFromBarrier barrier pipes.old pipes.new }
+    ensures kept { OnOk result (KeepsPipe pipes.old.rewrite (F.disk files.old) pipes.new.rewrite (F.disk files.new)) }
+    ensures later { RefusesNoMore (F.is_bounded files.old) (F.is_bounded files.new) (F.meter files.old) (F.meter files.new) }
+{
+    rewrite_groups(alloc, files, pipes, log, groups, before)?;
+    let_files_go(files, pipes, log, barrier)
+}
+
+/// The marks of the append queue, if it is large.
+fn due_marks(pipes: &DualPipes, threshold: u64) -> Option<Watermarks>
+    ensures none { IfNone result (IsLarge (queue_of pipes.now.append) threshold → ⊥) }
+    ensures some { IfSome result (λ marks. IsLarge (queue_of pipes.now.append) threshold × (marks ≡ marks_of_pipe pipes.now.append)) }
+    ensures below { IfSome result (λ marks. marks.rewrite + 1 < 2 ^ 64) }
+{
+    let queue = files_of(pipes, LogQueue::Append);
+    if !is_large(queue, threshold) {
+        return None;
+    }
+    Some(watermarks_of(queue))
+}
+
+/// What is done with groups where the append queue is large: which are told, and of which is rewritten
+/// what lies up to the mark, this file included.
+fn plan_for(
+    alloc: Global,
+    log: &TracedTables,
+    reports: &Reports,
+    marks: Watermarks,
+) -> Result<Plan, AllocError>
+    requires entries { TellEntries (traces_in log.now.traces) (content_in log.now.tables) }
+    requires mark { marks.rewrite + 1 < 2 ^ 64 }
+    ensures { IfOk result (λ plan. AreTold log.now marks reports.now plan.reports plan.told.items) }
+{
+    let mut plan = plan_of(alloc, log, reports, marks)?;
+    push_cleaned(log, marks.rewrite + 1, &mut plan.rewritten)?;
+    Ok(plan)
+}
+
 /// How far a cleaning that is asked for goes (raft-engine's `RewriteStep`).
 #[derive(Clone, Copy, Debug, PartialEq, Eq)]
 pub enum RewriteStep {
@@ -182,14 +268,25 @@ pub enum RewriteStep {
 #[derive(Drop)]
 pub struct PurgeManager {
     alloc: Global,
+    /// The append queue is cleaned once its files may hold more bytes.
+    purge_threshold: u64,
+    /// How many times in a row groups were told to compact and left alone.
+    reports: Reports,
 }
 
 impl PurgeManager {
-    /// A manager that has cleaned nothing yet.
-    pub fn new(alloc: Global) -> PurgeManager
-        ensures { result.alloc ≡ alloc }
+    /// A manager that has cleaned nothing yet. The threshold is in bytes (raft-engine's
+    /// `purge-threshold`).
+    pub fn new(alloc: Global, purge_threshold: u64) -> PurgeManager
+        ensures alloc { result.alloc ≡ alloc }
+        ensures threshold { result.purge_threshold ≡ purge_threshold }
+        ensures reports { (group : ℕ) → count_in result.reports group ≡ 0 }
     {
-        PurgeManager { alloc }
+        PurgeManager {
+            alloc,
+            purge_threshold,
+            reports: Reports::new(alloc),
+        }
     }
 
     /// Writes anew what all groups have up to a file of the append queue, this one included, whatever
@@ -234,6 +331,39 @@ impl PurgeManager {
         ensures kept { KeepsPipe pipes.old.rewrite (F.disk files.old) pipes.new.rewrite (F.disk files.new) }
         ensures later { RefusesNoMore (F.is_bounded files.old) (F.is_bounded files.new) (F.meter files.old) (F.meter files.new) }
     {
-        let_go(files, pipes, &log.traces, barrier)
+        let_files_go(files, pipes, log, barrier)
+    }
+
+    /// Cleans the append queue if it is large, and answers the groups that whoever writes them is told
+    /// to compact, rising, each once (raft-engine's `purge_expired_files`, of the append queue alone).
+    /// Of groups that aren't left alone is rewritten what lies up to the mark; groups that were cleaned
+    /// get their marks. Then files go, up to before the barrier. A queue that isn't large stays as it
+    /// is, and no group is told.
+    pub fn purge_expired_files<F: FileSystem>(
+        &mut self,
+        files: &mut F,
+        pipes: &mut DualPipes,
+        log: &mut TracedTables,
+        barrier: Option<FileSeq>,
+    ) -> Result<Vec<u64>, Error>
+        requires { CanCleanSome (F.disk files.old) pipes.old log.old }
+        ensures cleans { Cleans (F.disk files.old) pipes.old log.old (F.disk files.new) pipes.new log.new result }
+        ensures barrier { KeepsFromBarrier barrier pipes.old pipes.new }
+        ensures kept { OnOk result (KeepsPipe pipes.old.rewrite (F.disk files.old) pipes.new.rewrite (F.disk files.new)) }
+        ensures later { RefusesNoMore (F.is_bounded files.old) (F.is_bounded files.new) (F.meter files.old) (F.meter files.new) }
+        ensures told { IsLarge (queue_of pipes.old.append) self.old.purge_threshold
+            → IfOk result (λ told. AreTold log.old (marks_of_pipe pipes.old.append) self.old.reports self.new.reports told.items) }
+        ensures due { (IsLarge (queue_of pipes.old.append) self.old.purge_threshold → ⊥)
+            → IfOk result (λ told. told.items ≡ []) × (F.disk files.new ≡ F.disk files.old) × (pipes.new ≡ pipes.old) × (log.new ≡ log.old) × (self.new ≡ self.old) }
+        ensures set { (self.new.alloc ≡ self.old.alloc) × (self.new.purge_threshold ≡ self.old.purge_threshold) }
+    {
+        let Some(marks) = due_marks(pipes, self.purge_threshold) else {
+            return Ok(Vec::new(self.alloc));
+        };
+        let plan = plan_for(self.alloc, log, &self.reports, marks)?;
+        let before = marks.rewrite + 1;
+        clean_planned(self.alloc, files, pipes, log, &plan.rewritten, before, barrier)?;
+        self.reports = plan.reports;
+        Ok(plan.told)
     }
 }

@@ -1,5 +1,5 @@
 -- A key of a group, in the batch.
-use Rattle.std.proofs.Common.{◌≡◌, List, ℕ, Option, Some, refl, sym, ap, ◌∙◌}
+use Rattle.std.proofs.Common.{List, ℕ, Some, refl, sym, ap, ◌∙◌}
 use Rattle.std.specs.Option.{option_copied}
 use Rattle.raft_log_memtables.specs.MemTables.{content_in}
 use Rattle.raft_log_cleaner.proofs.Chunks.{group_there, value_seen}

@@ -1,5 +1,5 @@
 -- Entries that were fetched, and their copies.
-use Rattle.std.proofs.Common.{◌≡◌, ◌<◌, List, map, length, sym, ap, subst, ◌∙◌, arith, rules}
+use Rattle.std.proofs.Common.{◌≡◌, List, map, subst, arith}
 use Rattle.std.specs.Prelude.{Contains, IfOk}
 use Rattle.std.proofs.lemmas.Grind.{common_steps}
 use Rattle.raft_log_records.specs.declared.item.EntryIndex.{EntryIndex}

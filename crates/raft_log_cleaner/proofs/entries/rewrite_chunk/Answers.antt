@@ -1,5 +1,5 @@
 -- Entries of a group, in the batch.
-use Rattle.std.proofs.Common.{◌≡◌, ◌⊎◌, ℕ, ◌+◌, ◌≤◌, List, None, length, refl, sym, ap, subst, ◌∙◌, arith, vec_len}
+use Rattle.std.proofs.Common.{◌≡◌, ◌⊎◌, ℕ, ◌+◌, ◌≤◌, List, None, length, refl, sym, subst, ◌∙◌, arith, vec_len}
 use Rattle.std.specs.Prelude.{IsSome}
 use Rattle.std.proofs.lemmas.List.{length-map}
 use Rattle.raft_log_files.specs.declared.error.Error.TheVariants.{EntryNotFound}

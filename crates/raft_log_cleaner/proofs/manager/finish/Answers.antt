@@ -1,6 +1,4 @@
 -- The batch is written, and the rewrite queue synced.
-use Rattle.std.proofs.Common.{◌≡◌, ap, ◌∙◌, sym, subst}
-use Rattle.std.specs.Prelude.{Result, OnOk}
 use Rattle.raft_log_disk.proofs.RefusalLemmas.{no_more_then}
 use Rattle.raft_log_cleaner.proofs.Ends.{ends_ok}
 use Rattle.raft_log_cleaner.proofs.Going.{gone_more, gone_then, none_ok, not_yet, when_err}

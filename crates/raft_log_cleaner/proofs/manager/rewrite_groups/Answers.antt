@@ -2,6 +2,7 @@
 use Rattle.std.proofs.Common.{List, ℕ}
 use Rattle.raft_log_disk.proofs.RefusalLemmas.{no_more_then}
 use Rattle.raft_log_memtables.specs.Content.{Content}
+use Rattle.raft_log_blocks.proofs.HeldLemmas.{then_as_before}
 use Rattle.raft_log_cleaner.specs.Cleaning.{CanClean}
 use Rattle.raft_log_cleaner.proofs.Ends.{begins_with}
 use Rattle.raft_log_cleaner.proofs.Going.{none_ok, when_err}
@@ -20,6 +21,7 @@ returns-in_err-rewrite_each g c =
         ok = λ content can. none_ok _ _ c.from_residual.result c.from_residual.ensures.1;
         err = λ content can. when_err c.from_residual.result (c.in_err-rewrite_each.ensures.goes_on.err content (begun content can));
       };
+      append = c.in_err-rewrite_each.ensures.goes_on.append;
       kept = none_ok _ _ c.from_residual.result c.from_residual.ensures.1;
       left = when_err c.from_residual.result (c.in_err-rewrite_each.ensures.goes_on.left c.requires.0 (begun c.requires.0 c.requires.1));
       later = c.in_err-rewrite_each.ensures.later;
@@ -45,6 +47,7 @@ returns g c =
         ok = λ content can. finishes.ok content (goes_on.ok content (begun content can));
         err = λ content can. finishes.err content (goes_on.ok content (begun content can));
       };
+      append = then_as_before p.append q.append r.append d e f goes_on.append finishes.append;
       kept = ok_then c.finish.result d e f p q r goes_on.kept finishes.kept;
       left = err_then c.finish.result d e f p q r goes_on.kept (finishes.left c.requires.0 (goes_on.ok c.requires.0 (begun c.requires.0 c.requires.1)));
       later = no_more_then c.in_ok-rewrite_each.ensures.later c.finish.ensures.later;

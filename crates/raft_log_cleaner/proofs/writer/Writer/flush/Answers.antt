@@ -1,5 +1,5 @@
 -- A batch that is written, and a sync behind it.
-use Rattle.std.proofs.Common.{◌≡◌, ap, ◌∙◌}
+use Rattle.std.proofs.Common.{ap, ◌∙◌}
 use Rattle.raft_log_disk.proofs.RefusalLemmas.{no_more_then}
 use Rattle.raft_log_cleaner.proofs.Going.{gone_more, gone_refused, gone_then, not_yet, when_ok}
 use Rattle.raft_log_cleaner.proofs.writer.Writer.flush.Goals as goal

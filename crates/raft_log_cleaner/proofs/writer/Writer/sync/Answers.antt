@@ -1,5 +1,5 @@
 -- A sync of the rewrite queue.
-use Rattle.std.proofs.Common.{◌≡◌, [], sym, ap, ◌∙◌}
+use Rattle.std.proofs.Common.{[], sym, ◌∙◌}
 use Rattle.raft_log_cleaner.proofs.Going.{none_ok, when_err}
 use Rattle.raft_log_cleaner.proofs.Keeping.{pipe_as_before, pipe_left, pipe_on}
 use Rattle.raft_log_cleaner.proofs.Standing as standing

@@ -1,10 +1,8 @@
 -- Files that no group needs.
-use Rattle.std.proofs.Common.{◌≡◌, ℕ, ◌+◌, sym, ◌∙◌}
-use Rattle.std.specs.Prelude.{Result, Ok, Err, IfOk}
 use Rattle.raft_log_cleaner.proofs.Going.{when_err, when_ok}
 use Rattle.raft_log_cleaner.proofs.Gone.{counted, files_gone, none_from, rest_leaves}
 use Rattle.raft_log_cleaner.proofs.Keeping.{pipe_as_before}
-use Rattle.raft_log_cleaner.proofs.manager.PurgeManager.purge_append_files.Goals as goal
+use Rattle.raft_log_cleaner.proofs.manager.let_files_go.Goals as goal
 
 pub let_go-requires-after_bounds : goal.let_go-requires-after_bounds
 let_go-requires-after_bounds g c κs within = c.requires.1.pipes.append
