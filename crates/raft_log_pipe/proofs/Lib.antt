@@ -13,4 +13,5 @@ pub mod TornLemmas
 pub mod OthersLemmas
 pub mod TakenLemmas
 pub mod LostLemmas
+pub mod RestLemmas
 pub mod CausedLemmas

@@ -8,6 +8,7 @@ ghost use Rattle.raft_log_pipe.specs.declared.file.File.{File};
 ghost use Rattle.raft_log_pipe.specs.Alone.{IsAlone};
 ghost use Rattle.raft_log_pipe.specs.Blocks.{IsOutOfSpan};
 ghost use Rattle.raft_log_pipe.specs.Caused.{IsCaused, IsPurgeFault};
+ghost use Rattle.raft_log_pipe.specs.Kept.{KeepsSettings};
 ghost use Rattle.raft_log_pipe.specs.Pipe.{IsPipe, first_of};
 ghost use Rattle.raft_log_pipe.specs.Purging.{AreGone, AreLastOf, HoldsRest, KeepsFrom};
 ghost use Rattle.raft_log_pipe.specs.Taken.{HasLost, IsOkOrMemory, IsPurgeTaken, IsTakenBy};
@@ -31,6 +32,8 @@ impl SinglePipe {
         ensures told { IsErrOf result (Other NumberOutOfSpan) → ⊥ }
         ensures holds { HoldsRest self.old (F.disk files.old) self.new (F.disk files.new) }
         ensures keeps { KeepsFrom self.old.queue (first_of self.new) (F.disk files.old) (F.disk files.new) }
+        ensures set { KeepsSettings self.old self.new }
+        ensures alone { OnOk result (IsAlone self.old (F.disk files.old) → IsAlone self.new (F.disk files.new)) }
         ensures lost { OnOk result ((seq : ℕ) → HasLost self.new (F.disk files.new) seq → HasLost self.old (F.disk files.old) seq) }
         ensures later { RefusesNoMore (F.is_bounded files.old) (F.is_bounded files.new) (F.meter files.old) (F.meter files.new) }
         ensures taken { NothingRefuses (F.is_bounded files.old) (F.meter files.old) → IsTakenBy ⊥ (HasLost self.old (F.disk files.old) (first_of self.old + 1)) ⊥ result }
@@ -51,6 +54,9 @@ impl SinglePipe {
         requires pipe { IsPipe self.old (F.disk files.old) }
         ensures pipe { IsPipe self.new (F.disk files.new) }
         ensures same { (self.new.active ≡ self.old.active) × (self.new.queue ≡ self.old.queue) }
+        ensures paths { self.new.paths ≡ self.old.paths }
+        ensures set { KeepsSettings self.old self.new }
+        ensures alone { OnOk result (IsAlone self.old (F.disk files.old) → IsAlone self.new (F.disk files.new)) }
         ensures ok { IfOk result (λ n. (first_of self.new ≡ seq) × (first_of self.old + n ≡ seq)) }
         ensures out { IsOutOfSpan self.old seq → IsErrOf result (Other NumberOutOfSpan) × (self.new ≡ self.old) × (F.disk files.new ≡ F.disk files.old) }
         ensures within { IsErrOf result (Other NumberOutOfSpan) → IsOutOfSpan self.old seq }

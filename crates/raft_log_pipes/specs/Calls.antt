@@ -70,6 +70,8 @@ pub record IsRotationOf (old : SinglePipe) (d : Disk) (new : SinglePipe) (e : Di
 pub record IsPurgeOf (old : SinglePipe) (d : Disk) (new : SinglePipe) (e : Disk) (seq : ℕ) (result : Result ℕ Error) : Type 0 where
   pub pipe : IsPipe new e
   pub same : new.active ≡ old.active
+  pub paths : new.paths ≡ old.paths
+  pub alone : OnOk result (IsAlone old d → IsAlone new e)
   pub ok : IfOk result (λ n. (first_of new ≡ seq) × (first_of old + n ≡ seq))
   pub out : IsOutOfSpan old seq → IsErrOf result (Other NumberOutOfSpan) × (new ≡ old) × (e ≡ d)
   pub within : IsErrOf result (Other NumberOutOfSpan) → IsOutOfSpan old seq

@@ -95,6 +95,7 @@ impl DualPipes {
     ) -> Result<u64, Error>
         requires pipe { IsPipe (pipe_of self.old queue) (F.disk files.old) }
         ensures call { IsPurgeOf (pipe_of self.old queue) (F.disk files.old) (pipe_of self.new queue) (F.disk files.new) seq result }
+        ensures set { KeepSettings self.old self.new }
         ensures both { ArePipes self.old (F.disk files.old) → ArePipes self.new (F.disk files.new) }
         ensures others { KeepsOthers queue (F.disk files.old) (F.disk files.new) }
         ensures other { IsAsBefore (pipe_of self.old (other_queue queue)) (F.disk files.old) (pipe_of self.new (other_queue queue)) (F.disk files.new) }

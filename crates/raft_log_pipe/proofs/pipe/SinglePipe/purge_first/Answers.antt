@@ -11,6 +11,7 @@ use Rattle.raft_log_pipe.proofs.AloneLemmas.{with_older}
 use Rattle.raft_log_disk.proofs.RefusalLemmas.{no_more_call, taken_call}
 use Rattle.raft_log_pipe.specs.Taken.{HasLost}
 use Rattle.raft_log_pipe.proofs.LostLemmas.{first_lost, lost_before}
+use Rattle.raft_log_pipe.proofs.RestLemmas.{rest_alone}
 use Rattle.raft_log_pipe.proofs.TakenLemmas.{exit_io, still_taken}
 use Rattle.raft_log_disk.specs.Cause.{Rises}
 use Rattle.raft_log_pipe.proofs.CausedLemmas.{call_cause, exit_cause}
@@ -95,6 +96,15 @@ returns-clause-gone g c =
     (first_placed c.args.self.now (g.F.FileSystem.disk c.args.files.now) c.index-file.result.now c.requires.pipe c.requires.some c.index-file.ensures) c.index.ensures
     (c.as_str-2.ensures.value ∙ c.in_ok-path.ensures ∙ (λ i. c.as_str.ensures.value i ++ 47 ∷ log_file_name (record { queue = c.new-id.ensures.queue i; seq = c.new-id.ensures.seq i })))
     (deleted_none (g.F.FileSystem.disk c.args.files.now) (g.F.FileSystem.disk c.delete.new.self) c.as_str-2.result.now (met.is_named c.args.files.now) c.in_ok-delete.ensures.ok)
+
+pub returns-clause-alone : goal.returns-clause-alone
+returns-clause-alone g c =
+    let met = g.met.F.FileSystem g.world.𝓛 g.world.𝓜 g.world.𝓡 ((λ s x. x), (λ x. x), (λ x. x), λ x. x) in
+    rest_alone c.args.self.now c.remove.new.self c.index-file.result.now c.index.result.now (g.F.FileSystem.disk c.args.files.now) (g.F.FileSystem.disk c.delete.new.self) c.as_str-2.result.now (met.is_named c.args.files.now)
+    (removed_first c.args.self.now.older.items c.index-file.result.now c.requires.some c.index-file.ensures ∙ ap (λ (l : List File). c.index-file.result.now ∷ l) (sym c.remove.ensures.items))
+    (first_placed c.args.self.now (g.F.FileSystem.disk c.args.files.now) c.index-file.result.now c.requires.pipe c.requires.some c.index-file.ensures) c.index.ensures
+    (c.as_str-2.ensures.value ∙ c.in_ok-path.ensures ∙ (λ i. c.as_str.ensures.value i ++ 47 ∷ log_file_name (record { queue = c.new-id.ensures.queue i; seq = c.new-id.ensures.seq i })))
+    c.in_ok-delete.ensures.ok
 
 pub returns-clause-lost : goal.returns-clause-lost
 returns-clause-lost g c =

@@ -1,5 +1,7 @@
 use Rattle.std.proofs.Common.{◌≡◌, ℕ, ◌+◌, ◌≤◌}
 use Rattle.raft_log_disk.specs.Cause.{RefusesNoMore}
+use Rattle.raft_log_pipe.specs.Alone.{IsAlone}
+use Rattle.raft_log_pipe.specs.Kept.{KeepsSettings}
 use Rattle.raft_log_pipe.specs.Pipe.{IsPipe, first_of}
 use Rattle.raft_log_pipe.specs.Purging.{AreGone, AreLastOf, HoldsRest, KeepsFrom}
 use Rattle.raft_log_pipe.specs.Taken.{HasLost}
@@ -13,6 +15,8 @@ invariant-loop-gone g l = record {
   active : l.self.active ≡ l.initial.self.active;
   queue : l.self.queue ≡ l.initial.self.queue;
   paths : l.self.paths ≡ l.initial.self.paths;
+  set : KeepsSettings l.initial.self l.self;
+  alone : IsAlone l.initial.self (g.F.FileSystem.disk l.initial.files) → IsAlone l.self (g.F.FileSystem.disk l.files);
   holds : HoldsRest l.initial.self (g.F.FileSystem.disk l.initial.files) l.self (g.F.FileSystem.disk l.files);
   keeps : KeepsFrom l.initial.self.queue (first_of l.self) (g.F.FileSystem.disk l.initial.files) (g.F.FileSystem.disk l.files);
   rest : AreLastOf l.initial.self.older.items l.self.older.items;
