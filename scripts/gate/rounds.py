@@ -11,6 +11,7 @@ import re
 import shutil
 import subprocess
 import tempfile
+import threading
 
 from kit import rt, rtlib
 
@@ -119,19 +120,28 @@ class Tries:
                 self.reaches[it] = reached, turned
         self.refused, self.failed = [], {}
         self.seconds, self.checks = 0.0, 0
+        self._counting = threading.Lock()
 
     def run(self):
-        """Tries all edits, in as few rounds as their functions allow."""
+        """Tries all edits, one round after the other."""
+        for it in self.rounds():
+            self.round(it)
+
+    def rounds(self):
+        """Returns the edits in as few rounds as their functions allow, which may be tried side by
+        side. Those that can't be made are noted as failed."""
         for it in self.edits:
             if it.fault:
                 self.failed[it] = f"can't be made: {it.fault}"
             elif not it.functions:
                 self.failed[it] = "turns no body: name what must be refused by a line only:"
-        left = [it for it in self.edits if it not in self.failed]
+        found, left = [], [it for it in self.edits if it not in self.failed]
         while left:
-            now = first_round(left, self.reaches)
-            self.round(now)
-            left = [it for it in left if it not in now]
+            found.append(first_round(left, self.reaches))
+            left = [it for it in left if it not in found[-1]]
+        if self.crate:
+            shutil.rmtree(f"{self.crate.folder}/out/edits", ignore_errors=True)
+        return found
 
     def round(self, edits):
         """Tries these edits at once, and in smaller parts where the check doesn't end."""
@@ -194,18 +204,18 @@ class Tries:
             texts, _ = it.made(texts)
         only = dict.fromkeys(name for it in edits for name in it.functions)
         ran = self._check(self.crate, texts, only)
-        self.seconds, self.checks = self.seconds + ran.seconds, self.checks + 1
-        self.keep(edits, ran)
+        with self._counting:
+            self.seconds, self.checks = self.seconds + ran.seconds, self.checks + 1
+            number = self.checks
+        self.keep(edits, ran, number)
         return ran, texts
 
-    def keep(self, edits, ran):
+    def keep(self, edits, ran, number):
         """Keeps what the check said, for whoever wants to know which goal refused an edit."""
         if self.crate:
             folder = f"{self.crate.folder}/out/edits"
-            if self.checks == 1:
-                shutil.rmtree(folder, ignore_errors=True)
             os.makedirs(folder, exist_ok=True)
-            with open(f"{folder}/{self.checks}.txt", "w", encoding="utf-8") as it:
+            with open(f"{folder}/{number}.txt", "w", encoding="utf-8") as it:
                 it.write("\n".join(["edits: " + " ".join(e.name for e in edits), *ran.lines, ""]))
 
 

@@ -24,6 +24,9 @@ WEIGHTS = {
     "odd": 12,
 }
 
+# In a thousand lines so many are followed by a cleaning.
+CLEANINGS = 30
+
 # No more frames of a group than these wait for their turn: the others are lost.
 MOST_WAITING = 30
 
@@ -33,6 +36,8 @@ class Chooser:
 
     def __init__(self, seed, nodes, groups, first=7):
         self.chance = Chance(seed)
+        # Cleanings change no answer of another line, so they are chosen apart.
+        self.cleaning = Chance(seed + 1000)
         self.script = Script()
         self.nodes = tuple(range(1, nodes + 1))
         self.numbers = tuple(range(first, first + groups))
@@ -208,8 +213,16 @@ class Chooser:
             return f"now {self.now}"
         return getattr(self, self.wanted(group) or self.kind())(group)
 
+    def cleanings(self):
+        """A node is cleaned now and then: one that is up or down, or that isn't there, or behind a fuse."""
+        if self.firsts or not self.cleaning.is_met(CLEANINGS):
+            return []
+        node = 99 if self.cleaning.is_met(50) else self.cleaning.one_of(self.nodes, 1)
+        fuse = f"fuse {1 + self.cleaning.below(6)} " if self.cleaning.is_met(200) else ""
+        return [f"{fuse}clean {node}"]
+
     def choose(self):
-        """The next line, which is answered too."""
+        """The next line, which is answered too, and a cleaning behind it, if one comes."""
         line = self.line()
         self.script.answer(line)
-        return line
+        return [line, *self.cleanings()]

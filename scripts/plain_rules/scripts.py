@@ -234,6 +234,11 @@ class Script:
         self.go_down(node)
         return "stopped"
 
+    def clean(self, node):
+        """The node's log is cleaned, which changes no group. It isn't large here, so no group holds back
+        anything."""
+        return self.standing(int(node)) or "ok"
+
     def crash(self, node, _):
         """The node stops. All that it stored was synced, so each choice leaves the same."""
         node = int(node)
@@ -299,7 +304,7 @@ class Script:
             return "ok"
         if verb == "fuse":
             return self.fuse(words[0], " ".join(words[1:]))
-        if verb in ("deliver", "crash", "reopen", "total"):
+        if verb in ("deliver", "clean", "crash", "reopen", "total"):
             return getattr(self, verb)(*words)
         calls = {
             "elect": lambda node, number: self.call(node, number, "elect"),

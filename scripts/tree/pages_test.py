@@ -59,16 +59,18 @@ TREE = {
                             f"{FILES}| raft_chest/specs/Chest | `IsOpen`, `lid_there` |\n",
     "docs/PROMISES.md": f"# Promises\n\n## Chests (raft_chest)\n\n{TABLE}| a | `impl Box for Chest`, `many_lids` | `opened` |\n"
                         f"\n{EDITS}| b | `a_lid_stays` (raft_chest) |\n",
-    "docs/TESTED.md": "| What | Where | What would fail |\n|---|---|---|\n| c | raft_chest_rows: 2 rows | d |\n"
-                      "| c | raft_chest_rows: 3 lines | d |\n\nIt tries some 1 wrong bodies.\n",
+    "docs/TESTED.md": "| What | Program | Count | Date | What would fail |\n|---|---|---|---|---|\n"
+                      "| c | raft_chest_rows | 3 rows | 2026-01-31 | d |\n"
+                      "| c | raft_low, raft_chest_rows | 2 tests; raft_chest_rows: 5 lines | 2026-01-30 | |\n"
+                      "| c | raft_chest_rows | 2 rows behind its mark | 2026-01-29 | |\n\nIt tries some 1 wrong bodies.\n",
     "crates/raft_chest/README.md": f"# raft_chest\n\ndocs/PROMISES.md, \"Chests (raft_chest)\", `specs/Chest`, `src/{{lib,lib}}.rt`.\n\n{TABLE}"
                                    "| a | `Chest::{open, close}` | `opened` (`HasLid`), `closed`; `stays` |\n"
                                    "| b | the same | `lids_of`, its `ensures` |\n",
     "crates/raft_chest/src/lib.rt": SOURCE,
     "crates/raft_chest/specs/Chest.antt": SPECS,
-    "crates/raft_low/src/lib.rt": "//! Low.\npub fn low_one()\n    ensures { true }\n{}\n",
+    "crates/raft_low/src/lib.rt": "//! Low.\npub fn low_one()\n    ensures { true }\n{}\n" + "\n#[test]\nfn low() {}\n" * 2,
     "crates/raft_chest_rows/src/main.rt": "//! Rows.\n",
-    "crates/raft_chest_rows/stdout": "# one\na -> 1\nb -> 2\n",
+    "crates/raft_chest_rows/stdout": "# one\na -> 1\n# From here on rows are written by scripts/chest.\nb -> 2\nc -> 3\n",
     "crates/raft_embedding/src/main.rt": "//! Embeds.\nfn lid() {}\n",
     "crates/raft_embedding/stdout": "1 open -> open\n",
     "scripts/edits/raft_chest/a_lid_stays.edit": "why: a\n",
@@ -98,13 +100,24 @@ FAULTS = [
     ("| low | |", "| low | raft_chest |", "docs/ARCHITECTURE.md", "raft_low doesn't stand on raft_chest"),
     ("raft_chest/specs/Chest", "raft_chest/specs/Lid", "docs/ARCHITECTURE.md", "raft_chest/specs/Lid isn't there"),
     ("`lid_there`", "`lid_where`", "docs/ARCHITECTURE.md", "no definition lid_where"),
-    ("2 rows", "1 rows", "docs/TESTED.md", "raft_chest_rows has 2 rows, not 1"),
-    ("3 lines", "1,003 lines", "docs/TESTED.md", "raft_chest_rows has 3 lines, not 1,003"),
+    ("3 rows", "1 rows", "docs/TESTED.md", "raft_chest_rows has 3 rows, not 1"),
+    ("5 lines", "1,005 lines", "docs/TESTED.md", "raft_chest_rows has 5 lines, not 1,005"),
+    ("behind its", "before its", "docs/TESTED.md", "raft_chest_rows has 1 rows before its mark, not 2"),
+    ("2 tests", "3 tests", "docs/TESTED.md", "raft_low has 2 tests, not 3"),
+    ("raft_low, raft_chest_rows", "scripts/edits", "docs/TESTED.md", "no crate has no tests"),
+    ("| raft_chest_rows | 3 rows", "| | 3 rows", "docs/TESTED.md", "the row names no program"),
+    ("| 3 rows |", "| some |", "docs/TESTED.md", "the row has no count"),
+    ("2026-01-31", "2026-02-30", "docs/TESTED.md", "2026-02-30 is no date"),
+    ("2026-01-30", "", "docs/TESTED.md", "an empty cell is no date"),
+    ("2026-01-29 |", "|", "docs/TESTED.md", "an empty cell is no date"),
+    ("| 2026-01-29 |", "|", "docs/TESTED.md", "the row has 4 cells"),
+    ("| Count | Date |", "| Count | Day |", "docs/TESTED.md", "the columns aren't"),
+    ("| Program |", "| Where |", "docs/TESTED.md", "there is no table"),
     ("some 1 wrong", "some 2 wrong", "docs/TESTED.md", "there are 1 wrong bodies"),
     ("1 open -> open", "1 open -> shut", "docs/GUIDE.md", "raft_embedding prints no row 1 open -> shut"),
     ("fn lid()", "fn lids()", "docs/GUIDE.md", "the sources of raft_embedding have no line fn lids() {}"),
     ("`specs/Chest`", "`HasNoLid`", "crates/raft_chest/README.md", "nothing is named HasNoLid"),
-    ("| c | raft_chest_rows: 2 rows", "| c | raft_chest_rows: 2 rows; raft_lid_rows: 1 row", "docs/TESTED.md", "there is no crate raft_lid_rows"),
+    ("raft_low, raft_chest_rows", "raft_low, raft_lid_rows", "docs/TESTED.md", "there is no crate raft_lid_rows"),
 ]
 
 

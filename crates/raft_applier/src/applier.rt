@@ -8,6 +8,7 @@ ghost use Rattle.raft_group_step.specs.GroupEvent.{GroupEvent, Open};
 ghost use Rattle.raft_group_step.specs.GroupStep.{group_step};
 ghost use Rattle.raft_group_step.specs.Refusal.{refusal_of};
 ghost use Rattle.raft_group_step.specs.StepResult.{tokens_of as waiting_tokens};
+ghost use Rattle.std.specs.Result.{result_err};
 ghost use Rattle.raft_group_storage.specs.Keeping.{KeepsAll};
 ghost use Rattle.raft_member.specs.Member.{IsIdle, IsUp};
 ghost use Rattle.raft_machines.specs.Fold.{fold_of};
@@ -68,6 +69,7 @@ impl<M: StateMachine> Applier<M> {
             → HasWholeSnapshot (group_step member.now.id (state_of st) Open).state
             → IfOk result (λ a. IsCaughtUp M.rules (M.state a.machine) a.applied (group_step member.now.id (state_of st) Open).state) }
         ensures kept { KeepsAll (S.shows storage.old) (S.shows storage.new) }
+        ensures met { S.meets storage.old storage.new (result_err result) }
     {
         let mut applier = Applier::new(alloc)?;
         let _progress = applier.catch_up(alloc, member, storage, group)?;
@@ -168,6 +170,7 @@ impl<M: StateMachine> Applier<M> {
             → IfOk result (HasGone M.rules (group_step member.now.id s e)) }
         ensures err { OnErr result (self.new.applied.waiting ≡ self.old.applied.waiting) }
         ensures kept { KeepsAll (S.shows storage.old) (S.shows storage.new) }
+        ensures met { S.meets storage.old storage.new (result_err result) }
     {
         let Some(engine) = member.engine() else {
             return Ok(Progress::none(alloc));

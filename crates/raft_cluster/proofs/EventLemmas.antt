@@ -10,7 +10,7 @@ use Rattle.raft_laws.specs.GroupWorld.{NodeState}
 use Rattle.raft_history_laws.proofs.EndedOnce.{no_setup}
 use Rattle.raft_machines.specs.Machine.{MachineRules}
 use Rattle.raft_sent_frames.specs.declared.frame.SentFrame.{SentFrame}
-use Rattle.raft_headline.specs.ClusterEvent.{AddGroup, Ask, Crash, Deliver, Fuse, Reopen, ResetPeer}
+use Rattle.raft_headline.specs.ClusterEvent.{AddGroup, Ask, Clean, Crash, Deliver, Fuse, Reopen, ResetPeer}
 use Rattle.raft_headline.specs.ClusterEvent.{ClusterEvent as PlainEvent, ClusterOutcome as PlainOutcome}
 use Rattle.raft_headline.specs.ClusterEvent.{Done, Said, Stopped, is_stopped, silent}
 use Rattle.raft_headline.specs.Told.{said_by}
@@ -35,14 +35,14 @@ use Rattle.raft_cluster_events.specs.declared.outcome.Recorded.{Recorded}
 use Rattle.raft_cluster_events.specs.declared.outcome.Stop.{Stop}
 use Rattle.raft_cluster_events.specs.Node.{NodeActs}
 use Rattle.raft_cluster_events.specs.States.{NodeStates}
-use Rattle.raft_node_laws.specs.Answered.{Answered, none_of, opening_of}
+use Rattle.raft_node_laws.specs.Answered.{none_of, one_of, opening_of, some_of}
 use Rattle.raft_node_laws.specs.Delivery.{Comes, pieces_from}
 use Rattle.raft_node_laws.specs.Law.{Anything, IsAskedAt, IsTaken, KeepsLaw, Leads, WasSent}
 use Rattle.raft_node_laws.specs.Reporting.{IsPartAs, IsSentAs, OutcomeAs, node_behind, plain_event}
-use Rattle.raft_node_laws.specs.Saying.{SaysOpening, SaysReset, names_of}
+use Rattle.raft_node_laws.specs.Saying.{SaysCleaning, SaysOpening, SaysReset, names_of}
 use Rattle.raft_cluster.specs.Cluster.{Happens, HappensBy, IsReached, IsTurnedAway, Reaches, RunsTo, nothing_sent, refusal_in, with_node}
 use Rattle.raft_cluster.specs.Facts.{Sent, differs, is_taken, membership_in, node_at, node_in, node_of, set_up_asked, set_up_by, set_up_by_event, set_up_if, standing_if, standing_of}
-use Rattle.raft_cluster.specs.Happening.{ComesTo, Delivers, Settles}
+use Rattle.raft_cluster.specs.Happening.{ComesTo, Delivers, NodeAnswer, Did, HasCleaned, Settles}
 use Rattle.raft_cluster.specs.Joined.{HasHeadline, downs_of, ids_of}
 use Rattle.raft_cluster.specs.Sending.{sent_after}
 use Rattle.raft_cluster.proofs.BeginLemmas.{agree_first, told_first}
@@ -121,6 +121,7 @@ away_is_free history e o why is = no_set_up history (record { event = e; outcome
     none h (event.Ask n g call now) = if_not (eqb g h) (membership_in call)
     none h (event.Deliver g number cuts now) = refl
     none h (event.ResetPeer n peer) = refl
+    none h (event.Clean n) = refl
     none h (event.Fuse n first_refused) = refl
     none h (event.Crash n choice) = refl
     none h (event.Reopen n workers) = refl
@@ -144,10 +145,10 @@ module _ {N : Type 0} (rules : MachineRules) (acts : NodeActs N) (states : NodeS
           let found : node_in acts nodes (acts.id before) ≡ Some before = ap (node_in acts nodes) is ∙ there in
           let (r, added, same) = comes.answers in
           let happened : PlainEvent = AddGroup (acts.id before) group in
-          let P : Answered → Type 0 = λ a. IsTaken rules acts states Anything happened group before a comes.behind in
+          let P : NodeAnswer → Type 0 = λ a. Settles acts sent (event.AddGroup node group) comes.behind a o later new in
           group_event rules acts states ids downs nodes sent history t before found (event.AddGroup node group) happened (ap (λ n. AddGroup n group) is) is
           o (no_set_up history (record { event = event.AddGroup node group; outcome = o }) (λ h. refl)) comes.behind new later comes.id_behind comes.id group (λ parts p h. h) (λ outcomes stop h. h) (λ h p. refl) Anything tt
-          comes.answered (subst P (sym same) (law.adds before comes.behind group r up added)) comes.settles
+          (one_of r) (law.adds before comes.behind group r up added) (subst P same comes.settles)
 
       asks : (node group : ℕ) (call : GroupCall) (now : ℕ) → node_in acts nodes node ≡ Some before → acts.is_up before ≡ true → IsFree history group (membership_in call)
           → ComesTo acts sent (event.Ask node group call now) before o later new → Now (event.Ask node group call now) new
@@ -157,13 +158,13 @@ module _ {N : Type 0} (rules : MachineRules) (acts : NodeActs N) (states : NodeS
           let (r, asked, same) = comes.answers in
           let happened : PlainEvent = Ask (acts.id before) group call now in
           let Kind = IsAskedAt (acts.id before) group call now in
-          let P : Answered → Type 0 = λ a. IsTaken rules acts states Kind happened group before a comes.behind in
+          let P : NodeAnswer → Type 0 = λ a. Settles acts sent (event.Ask node group call now) comes.behind a o later new in
           let same_setup : is_same_setup (setup_by group t.told.plain) (setup_in_call call) ≡ true =
           ap (is_same_setup (setup_by group t.told.plain)) (sym (same_membership call)) ∙ same_set_up group (membership_in call) free in
           group_event rules acts states ids downs nodes sent history t before found (event.Ask node group call now) happened (ap (λ n. Ask n group call now) is) is
           o (free_set_up history node group now call o free) comes.behind new later comes.id_behind comes.id group (λ parts p h. h) (λ outcomes stop h. h) (λ h p. refl) Kind
           (ap (λ b. scene_of_call b (acts.id before) call now) same_setup)
-          comes.answered (subst P (sym same) (law.asks before comes.behind group now call r up asked)) comes.settles
+          (one_of r) (law.asks before comes.behind group now call r up asked) (subst P same comes.settles)
 
       delivers : (group number : ℕ) (cuts : List ℕ) (now : ℕ) (frame : SentFrame) → slice_get (sent group) number ≡ Some frame → node_in acts nodes frame.peer ≡ Some before
           → acts.is_up before ≡ true → are_cuts 0 (length frame.bytes) cuts ≡ true
@@ -178,13 +179,13 @@ module _ {N : Type 0} (rules : MachineRules) (acts : NodeActs N) (states : NodeS
           let addressed : acts.id before ≡ m.addressee = is ∙ b.related.addressee in
           let happened : PlainEvent = Deliver group number now in
           let Kind = WasSent group number m in
-          let P : Answered → Type 0 = λ a. IsTaken rules acts states Kind happened group before a comes.behind in
+          let P : NodeAnswer → Type 0 = λ a. Settles acts sent (event.Deliver group number cuts now) comes.behind a o later new in
           let C : ℕ → Type 0 = λ s. Comes acts s now before (pieces_from frame.bytes 0 cuts) r comes.behind in
           let taken = law.delivers before comes.behind group number now m frame.bytes cuts r up (sym addressed) b.related.spelled cut (subst C b.related.sender came) in
           let At : Option Message → Type 0 = λ w. IfSome (option_map (λ (x : Message). x.addressee) w) (λ n. acts.id before ≡ n) in
           group_event rules acts states ids downs nodes sent history t before found (event.Deliver group number cuts now) happened refl (subst At (sym b.stands) addressed)
           o (no_set_up history (record { event = event.Deliver group number cuts now; outcome = o }) (λ h. refl)) comes.behind new later comes.id_behind comes.id group (λ parts p h. h) (λ outcomes stop h. h) (λ h p. refl) Kind b.stands
-          comes.answered (subst P (sym same) taken) comes.settles
+          (some_of r) taken (subst P same comes.settles)
 
       module _ (found : node_in acts nodes (acts.id before) ≡ Some before) (mid : N) (id_mid : acts.id mid ≡ acts.id before) (id_new : acts.id new ≡ acts.id before) (node : ℕ) (is : acts.id before ≡ node) where
         abbrev Leading : PlainEvent → N → (PlainOutcome → Type 0) → Type 0
@@ -198,7 +199,7 @@ module _ {N : Type 0} (rules : MachineRules) (acts : NodeActs N) (states : NodeS
             (λ h. with_nothing rules acts states ids downs nodes sent history t h later _ (ap (λ s. s.sent) (ap (λ q. said_by h q l.outcome) (itself happened (acts.id before) l.outcome l.told l.as_itself (ap is_stopped done)) ∙ says h l.outcome)) (kept h))
 
         resets : (peer : ℕ) (r : Result (Unit {0}) NodeError) → Leading (ResetPeer (acts.id before) peer) mid (SaysReset (none_of r))
-            → Settles acts sent (event.ResetPeer node peer) mid (none_of r) o later new → Now (event.ResetPeer node peer) new
+            → Settles acts sent (event.ResetPeer node peer) mid (Did (none_of r)) o later new → Now (event.ResetPeer node peer) new
         resets peer (Ok u) l (inr lacks) = absurd lacks.node
         resets peer (Ok u) l (inl done) =
             let e : ClusterEvent = event.ResetPeer node peer in
@@ -212,7 +213,22 @@ module _ {N : Type 0} (rules : MachineRules) (acts : NodeActs N) (states : NodeS
             (led_silently rules acts states ids downs nodes sent history t before found e (ResetPeer (acts.id before) peer) (ap (λ n. ResetPeer n peer) is) is o (no_set_up history (record { event = e; outcome = o }) (λ h. refl)) mid later id_mid (SaysReset (Err why)) l
             (error_as t.told.plain e why o l.outcome over_it.outcome l.says) over_it.sends)
 
-        fuses : (first_refused : Option ℕ) → Leading (Fuse (acts.id before)) mid (λ p. p ≡ Done silent) → Settles acts sent (event.Fuse node first_refused) mid (Ok []) o later new → Now (event.Fuse node first_refused) new
+        cleans : (r : Result (List ℕ) NodeError) → Leading (Clean (acts.id before)) mid (SaysCleaning r)
+            → Settles acts sent (event.Clean node) mid (HasCleaned r) o later new → Now (event.Clean node) new
+        cleans (Ok groups) l done =
+            let e : ClusterEvent = event.Clean node in
+            let (rising, says) = l.says in
+            subst (Now e) (sym done.node)
+            (silently e (Clean (acts.id before)) (ap (λ n. Clean n) is) is (λ h p. refl) (no_set_up history (record { event = e; outcome = o }) (λ h. refl)) (SaysCleaning (Ok groups)) l says
+            (subst (λ q. OutcomeAs t.told.plain e q l.outcome) (sym done.outcome) (record { rising = rising; done = says }))
+            done.sends)
+        cleans (Err why) l over_it =
+            let e : ClusterEvent = event.Clean node in
+            subst (Now e) (sym over_it.node)
+            (led_silently rules acts states ids downs nodes sent history t before found e (Clean (acts.id before)) (ap (λ n. Clean n) is) is o (no_set_up history (record { event = e; outcome = o }) (λ h. refl)) mid later id_mid (SaysCleaning (Err why)) l
+            (error_as t.told.plain e why o l.outcome over_it.outcome l.says) over_it.sends)
+
+        fuses : (first_refused : Option ℕ) → Leading (Fuse (acts.id before)) mid (λ p. p ≡ Done silent) → Settles acts sent (event.Fuse node first_refused) mid (Did (Ok [])) o later new → Now (event.Fuse node first_refused) new
         fuses first_refused l (inr lacks) = absurd lacks.node
         fuses first_refused l (inl done) =
             let e : ClusterEvent = event.Fuse node first_refused in
@@ -221,7 +237,7 @@ module _ {N : Type 0} (rules : MachineRules) (acts : NodeActs N) (states : NodeS
             (subst (λ q. OutcomeAs t.told.plain e q l.outcome) (sym done.outcome) (record { none = done.sends.numbered; done = l.says }))
             done.sends.sends)
 
-        crashes : (choice : CrashChoice) → Leading (Crash (acts.id before)) mid (λ p. p ≡ Done silent) → Settles acts sent (event.Crash node choice) mid (Ok []) o later new → Now (event.Crash node choice) new
+        crashes : (choice : CrashChoice) → Leading (Crash (acts.id before)) mid (λ p. p ≡ Done silent) → Settles acts sent (event.Crash node choice) mid (Did (Ok [])) o later new → Now (event.Crash node choice) new
         crashes choice l (inr lacks) = absurd lacks.node
         crashes choice l (inl done) =
             let e : ClusterEvent = event.Crash node choice in
@@ -232,7 +248,7 @@ module _ {N : Type 0} (rules : MachineRules) (acts : NodeActs N) (states : NodeS
 
         opened : (workers : ℕ) (outcomes : List NodeOutcome) → Leading (Reopen (acts.id before)) mid (SaysOpening states.spells (acts.id before) (Ok outcomes))
             → ((x : N) → acts.closes mid x → Leading (Reopen (acts.id before)) x (λ p. p ≡ Stopped []))
-            → Settles acts sent (event.Reopen node workers) mid (Ok outcomes) o later new → Now (event.Reopen node workers) new
+            → Settles acts sent (event.Reopen node workers) mid (Did (Ok outcomes)) o later new → Now (event.Reopen node workers) new
         opened workers outcomes l closes (inr lacks) =
             let e : ClusterEvent = event.Reopen node workers in
             let c = closes new lacks.node.1 in
@@ -259,7 +275,7 @@ module _ {N : Type 0} (rules : MachineRules) (acts : NodeActs N) (states : NodeS
 
         reopens : (workers : ℕ) (r : Result (List NodeOutcome) Stop) → Leading (Reopen (acts.id before)) mid (SaysOpening states.spells (acts.id before) (opening_of r))
             → ((outcomes : List NodeOutcome) (x : N) → r ≡ Ok outcomes → acts.closes mid x → Leading (Reopen (acts.id before)) x (λ p. p ≡ Stopped []))
-            → Settles acts sent (event.Reopen node workers) mid (opening_of r) o later new → Now (event.Reopen node workers) new
+            → Settles acts sent (event.Reopen node workers) mid (Did (opening_of r)) o later new → Now (event.Reopen node workers) new
         reopens workers (Ok outcomes) l closes settles = opened workers outcomes l (λ x. closes outcomes x refl) settles
         reopens workers (Err stop) l closes over_it =
             let e : ClusterEvent = event.Reopen node workers in
@@ -297,6 +313,14 @@ module _ {N : Type 0} (rules : MachineRules) (acts : NodeActs N) (states : NodeS
           let l = law.resets r.before r.comes.behind peer answered up reset ids t.told.plain (λ h. t.told.stand.candidates h (acts.id r.before)) tt (stands rules acts states ids downs nodes sent history t r.before found) in
           resets r.before o r.behind later found r.comes.behind r.comes.id_behind r.comes.id node is peer answered l
           (subst (λ a. Settles acts sent (event.ResetPeer node peer) r.comes.behind a o later r.behind) same r.comes.settles)
+      comes_there (event.Clean node) none r =
+          let up = up_for_call acts (acts.is_up r.before) (ap (λ w. refusal_of (standing_of acts w) asked.Call []) (sym r.named) ∙ none) in
+          let is = its_id acts nodes node r.before r.named in
+          let found = ap (node_in acts nodes) is ∙ r.named in
+          let (answered, cleaned, same) = r.comes.answers in
+          let l = law.cleans r.before r.comes.behind answered up cleaned ids t.told.plain (λ h. t.told.stand.candidates h (acts.id r.before)) tt (stands rules acts states ids downs nodes sent history t r.before found) in
+          cleans r.before o r.behind later found r.comes.behind r.comes.id_behind r.comes.id node is answered l
+          (subst (λ a. Settles acts sent (event.Clean node) r.comes.behind a o later r.behind) same r.comes.settles)
       comes_there (event.Fuse node first_refused) none r =
           let is = its_id acts nodes node r.before r.named in
           let found = ap (node_in acts nodes) is ∙ r.named in

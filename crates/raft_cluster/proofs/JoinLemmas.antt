@@ -30,7 +30,7 @@ use Rattle.raft_node_laws.specs.Reporting.{DoneAs, IsDoneAs, IsRecordedAs, IsSen
 use Rattle.raft_node_laws.specs.Saying.{IsToldAs, SaysCall, SaysError, names_of}
 use Rattle.raft_cluster.specs.Cluster.{with_node}
 use Rattle.raft_cluster.specs.Facts.{Sent, node_in}
-use Rattle.raft_cluster.specs.Happening.{FailsBehind, Settles, StopsFor, over}
+use Rattle.raft_cluster.specs.Happening.{FailsBehind, Did, Settles, StopsFor, over}
 use Rattle.raft_cluster.specs.Joined.{IsToldOf, ids_of}
 use Rattle.raft_cluster.specs.Sending.{part_of, sent_after_one}
 use Rattle.raft_cluster.proofs.ListLemmas.{found_new, found_other, ids_kept}
@@ -198,7 +198,7 @@ module _ {N : Type 0} (rules : MachineRules) (acts : NodeActs N) (states : NodeS
           abbrev GoalAt : N → Type 0
           GoalAt x = IsOneMore rules acts states ids downs nodes sent history t (record { event = e; outcome = o }) (with_node acts (acts.id before) x nodes) later
 
-          pub group_event : (answered : Answered) → IsTaken rules acts states Kind happened group before answered mid → Settles acts sent e mid answered o later new → GoalAt new
+          pub group_event : (answered : Answered) → IsTaken rules acts states Kind happened group before answered mid → Settles acts sent e mid (Did answered) o later new → GoalAt new
           group_event (Err why) taken over_it =
               let l = taken.ends ids t.told.plain (olds (acts.id before)) kind stands in
               subst GoalAt (sym over_it.node)

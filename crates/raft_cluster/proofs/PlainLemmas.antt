@@ -137,6 +137,7 @@ same_if false taken call = refl
 
 same_taken : (before : List PlainRecord) (n g : ℕ) (call : GroupCall) (now : ℕ) (o : EventOutcome) (p : PlainOutcome) → OutcomeAs before (event.Ask n g call now) o p → is_taken o ≡ is_taken_plain p
 same_taken before n g call now (outcome.Done parts) p h = sym (ap is_taken_plain h.done)
+same_taken before n g call now (outcome.Cleaned groups) p h = absurd h
 same_taken before n g call now (outcome.Refused why) p h = sym (passive why p h).untaken
 same_taken before n g call now (outcome.Stopped stop) p h = sym (ap is_taken_plain h)
 same_taken before n g call now (outcome.TurnedAway why) p h = sym (ap is_taken_plain h)
@@ -148,6 +149,7 @@ same_set_up h before (event.Ask n g call now) o p told =
     ∙ same_if (eqb g h) (is_taken_plain p) call
 same_set_up h before (event.Deliver g number cuts now) o p told = refl
 same_set_up h before (event.ResetPeer n peer) o p told = refl
+same_set_up h before (event.Clean n) o p told = refl
 same_set_up h before (event.Fuse n first_refused) o p told = refl
 same_set_up h before (event.Crash n choice) o p told = refl
 same_set_up h before (event.Reopen n workers) o p told = refl

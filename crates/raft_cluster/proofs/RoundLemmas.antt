@@ -15,17 +15,16 @@ use Rattle.raft_cluster_conditions.specs.Refusal.{refusal_of}
 use Rattle.raft_sent_frames.specs.declared.frame.SentFrame.{SentFrame}
 use Rattle.raft_sent_frames.specs.Frames.{frames_of}
 use Rattle.raft_cluster_events.specs.declared.event.ClusterEvent.{ClusterEvent}
-use Rattle.raft_cluster_events.specs.declared.event.ClusterEvent.TheVariants.{AddGroup, Ask, Deliver, ResetPeer, Fuse, Crash, Reopen}
+use Rattle.raft_cluster_events.specs.declared.event.ClusterEvent.TheVariants.{AddGroup, Ask, Deliver, ResetPeer, Clean, Fuse, Crash, Reopen}
 use Rattle.raft_cluster_events.specs.declared.outcome.CrashRefusal.TheVariants.{Memory}
 use Rattle.raft_cluster_events.specs.declared.outcome.EventOutcome.{EventOutcome}
 use Rattle.raft_cluster_events.specs.declared.outcome.Recorded.{Recorded}
 use Rattle.raft_cluster_events.specs.Node.{NodeActs}
-use Rattle.raft_node_laws.specs.Answered.{Answered}
 use Rattle.raft_cluster.specs.declared.answer.Answer.{Answer}
-use Rattle.raft_cluster.specs.declared.answer.Answer.TheVariants.{OfGroup, Quiet, Opened, Spared}
+use Rattle.raft_cluster.specs.declared.answer.Answer.TheVariants.{OfGroup, Quiet, Cleaned, Opened, Spared}
 use Rattle.raft_cluster.specs.Cluster.{ClusterValue, Happens, HappensBy, IsReached, IsRefusedFor, RunsTo, events_of, nothing_sent, refusal_in}
 use Rattle.raft_cluster.specs.Facts.{Sent, asked_of, cuts_of, delivered, differs, differs_from, is_taken, membership_in, node_at, node_of, node_there, place_in, set_up_by, set_up_by_event, set_up_if, standing_of}
-use Rattle.raft_cluster.specs.Happening.{Answers, Delivers}
+use Rattle.raft_cluster.specs.Happening.{Answers, Delivers, NodeAnswer}
 use Rattle.raft_cluster.specs.Round.{AllButSpared, AreAhead, HasNoTurn, HasPart, HasTurn, IsTurned, Rounds, TakesTurns, WantsMemory, are_idle, IsAheadOf, IsFree, IsIn, has_to_wait, is_apart_from, is_for, is_round, is_set_up, is_that, place_by, sets_up, sets_up_elsewhere}
 use Rattle.raft_cluster.specs.Turn.{HasCome, IsAnswered, IsAtTurn, refusal_for}
 use Rattle.raft_cluster.proofs.ClusterLemmas.{runs_on}
@@ -60,6 +59,7 @@ none_by_event group (Ask node g call now) taken none = sets_none (eqb g group) t
 none_by_event group (AddGroup node g) taken none = refl
 none_by_event group (Deliver g number cuts now) taken none = refl
 none_by_event group (ResetPeer node peer) taken none = refl
+none_by_event group (Clean node) taken none = refl
 none_by_event group (Fuse node first_refused) taken none = refl
 none_by_event group (Crash node choice) taken none = refl
 none_by_event group (Reopen node workers) taken none = refl
@@ -103,6 +103,7 @@ pub same_asked : (sent : Sent) (events left : List ClusterEvent) (history record
 same_asked sent events left history records (AddGroup node group) at there waits past = refl
 same_asked sent events left history records (Deliver group number cuts now) at there waits past = refl
 same_asked sent events left history records (ResetPeer node peer) at there waits past = refl
+same_asked sent events left history records (Clean node) at there waits past = refl
 same_asked sent events left history records (Fuse node first_refused) at there waits past = refl
 same_asked sent events left history records (Crash node choice) at there waits past = refl
 same_asked sent events left history records (Reopen node workers) at there waits past = refl
@@ -120,22 +121,24 @@ same_asked sent events left history records (Ask node group (Initialize m) now) 
 -- ---- an answer holds at its event's turn
 
 module _ {N : Type 0} (acts : NodeActs N) where
-  answers_later : (sent later : Sent) (event : ClusterEvent) (old new : N) (answered : Answered) → delivered later event ≡ delivered sent event → Answers acts sent event old answered new → Answers acts later event old answered new
+  answers_later : (sent later : Sent) (event : ClusterEvent) (old new : N) (answered : NodeAnswer) → delivered later event ≡ delivered sent event → Answers acts sent event old answered new → Answers acts later event old answered new
   answers_later sent later (AddGroup node group) old new answered same h = h
   answers_later sent later (Ask node group call now) old new answered same h = h
   answers_later sent later (Deliver group number cuts now) old new answered same h =
       let P : Option SentFrame → Type 0 = λ w. Delivers acts w cuts now old answered new in subst P (sym same) h
   answers_later sent later (ResetPeer node peer) old new answered same h = h
+  answers_later sent later (Clean node) old new answered same h = h
   answers_later sent later (Fuse node first_refused) old new answered same h = h
   answers_later sent later (Crash node choice) old new answered same h = h
   answers_later sent later (Reopen node workers) old new answered same h = h
 
-  come_later : (sent later : Sent) (event : ClusterEvent) (old new : N) (answered : Answered) → delivered later event ≡ delivered sent event → HasCome acts sent event old answered new → HasCome acts later event old answered new
+  come_later : (sent later : Sent) (event : ClusterEvent) (old new : N) (answered : NodeAnswer) → delivered later event ≡ delivered sent event → HasCome acts sent event old answered new → HasCome acts later event old answered new
   come_later sent later event old new answered same h = record { answers = answers_later sent later event old new answered same h.answers; id = h.id }
 
   answered_later : (sent later : Sent) (event : ClusterEvent) (old new : N) (answer : Answer) → delivered later event ≡ delivered sent event → IsAnswered acts sent event old answer new → IsAnswered acts later event old answer new
   answered_later sent later event old new (OfGroup r) same (kind, h) = (kind, come_later sent later event old new _ same h)
   answered_later sent later event old new (Quiet r) same h = come_later sent later event old new _ same h
+  answered_later sent later event old new (Cleaned r) same h = come_later sent later event old new _ same h
   answered_later sent later event old new (Opened r) same (kind, h) = (kind, come_later sent later event old new _ same h)
   answered_later sent later event old new (Spared away) same h = h
 
@@ -151,6 +154,7 @@ module _ {N : Type 0} (acts : NodeActs N) where
   answered_id : (sent : Sent) (event : ClusterEvent) (old new : N) (answer : Answer) → IsAnswered acts sent event old answer new → acts.id new ≡ acts.id old
   answered_id sent event old new (OfGroup r) h = h.1.id
   answered_id sent event old new (Quiet r) h = h.id
+  answered_id sent event old new (Cleaned r) h = h.id
   answered_id sent event old new (Opened r) h = h.1.id
   answered_id sent event old new (Spared away) h = ap acts.id h.node
 

@@ -10,15 +10,14 @@ use Rattle.raft_cluster_conditions.specs.Refusal.{refusal_of}
 use Rattle.raft_sent_frames.specs.declared.frame.SentFrame.{SentFrame}
 use Rattle.raft_sent_frames.specs.Frames.{sent_by}
 use Rattle.raft_cluster_events.specs.declared.event.ClusterEvent.{ClusterEvent}
-use Rattle.raft_cluster_events.specs.declared.event.ClusterEvent.TheVariants.{AddGroup, Ask, Deliver, ResetPeer, Fuse, Crash, Reopen}
+use Rattle.raft_cluster_events.specs.declared.event.ClusterEvent.TheVariants.{AddGroup, Ask, Deliver, ResetPeer, Clean, Fuse, Crash, Reopen}
 use Rattle.raft_cluster_events.specs.declared.node.NodeOutcome.{NodeOutcome}
 use Rattle.raft_cluster_events.specs.declared.outcome.EventOutcome.{EventOutcome}
 use Rattle.raft_cluster_events.specs.declared.outcome.Recorded.{Recorded}
 use Rattle.raft_cluster_events.specs.Node.{NodeActs}
-use Rattle.raft_node_laws.specs.Answered.{Answered}
 use Rattle.raft_cluster.specs.Cluster.{Happens, HappensBy, refusal_in}
 use Rattle.raft_cluster.specs.Facts.{Sent, asked_of, cuts_of, delivered, node_at, node_of, node_there, place_in, standing_of}
-use Rattle.raft_cluster.specs.Happening.{EndsAt, Settles}
+use Rattle.raft_cluster.specs.Happening.{EndsAt, NodeAnswer, Did, HasCleaned, Settles}
 use Rattle.raft_cluster.specs.Round.{place_by}
 use Rattle.raft_cluster.specs.Sending.{sent_after, sent_after_one}
 use Rattle.raft_cluster.specs.Turn.{HappensAt, HappensAtBy, refusal_for}
@@ -135,11 +134,12 @@ as_it_was : (sent later : Sent) → ((group : ℕ) → later group ≡ sent grou
 as_it_was sent later same group k frame e = ap (λ frames. slice_get frames k) (same group) ∙ e
 
 module _ {N : Type 0} (acts : NodeActs N) where
-  settled : (sent later : Sent) (event : ClusterEvent) (old new : N) (answered : Answered) (o : EventOutcome) → Settles acts sent event old answered o later new → Grows sent later
-  settled sent later event old new (Ok outcomes) o (inl done) group k frame e =
+  settled : (sent later : Sent) (event : ClusterEvent) (old new : N) (answered : NodeAnswer) (o : EventOutcome) → Settles acts sent event old answered o later new → Grows sent later
+  settled sent later event old new (Did (Ok outcomes)) o (inl done) group k frame e =
       ap (λ frames. slice_get frames k) (done.sends.sends group) ∙ after_all sent (acts.id old) outcomes group k frame e
-  settled sent later event old new (Ok outcomes) o (inr lacks) group k frame e = as_it_was sent later lacks.sends group k frame e
-  settled sent later event old new (Err error) o over group k frame e = as_it_was sent later over.sends group k frame e
+  settled sent later event old new (Did (Ok outcomes)) o (inr lacks) group k frame e = as_it_was sent later lacks.sends group k frame e
+  settled sent later event old new (Did (Err error)) o over group k frame e = as_it_was sent later over.sends group k frame e
+  settled sent later event old new (HasCleaned r) o over group k frame e = as_it_was sent later over.sends group k frame e
 
   pub grows : (nodes new : List N) (sent later : Sent) (history : List Recorded) (event : ClusterEvent) (o : EventOutcome) → Happens acts nodes sent history event o new later → Grows sent later
   grows nodes new sent later history event o = go (refusal_in acts nodes sent history event)
@@ -162,6 +162,7 @@ pub same_frame : (sent later : Sent) (event : ClusterEvent) (id : ℕ) → Grows
 same_frame sent later (AddGroup node group) id grows e = record { node = refl; frame = refl; asked = λ h. refl }
 same_frame sent later (Ask node group call now) id grows e = record { node = refl; frame = refl; asked = λ h. refl }
 same_frame sent later (ResetPeer node peer) id grows e = record { node = refl; frame = refl; asked = λ h. refl }
+same_frame sent later (Clean node) id grows e = record { node = refl; frame = refl; asked = λ h. refl }
 same_frame sent later (Fuse node first_refused) id grows e = record { node = refl; frame = refl; asked = λ h. refl }
 same_frame sent later (Crash node choice) id grows e = record { node = refl; frame = refl; asked = λ h. refl }
 same_frame sent later (Reopen node workers) id grows e = record { node = refl; frame = refl; asked = λ h. refl }

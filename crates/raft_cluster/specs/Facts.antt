@@ -11,9 +11,9 @@ use Rattle.raft_cluster_conditions.specs.declared.reasons.NodeStanding.{NodeStan
 use Rattle.raft_cluster_conditions.specs.declared.reasons.NodeStanding.TheVariants.{Missing, Down, Up}
 use Rattle.raft_sent_frames.specs.declared.frame.SentFrame.{SentFrame}
 use Rattle.raft_cluster_events.specs.declared.event.ClusterEvent.{ClusterEvent}
-use Rattle.raft_cluster_events.specs.declared.event.ClusterEvent.TheVariants.{AddGroup, Ask, Deliver, ResetPeer, Fuse, Crash, Reopen}
+use Rattle.raft_cluster_events.specs.declared.event.ClusterEvent.TheVariants.{AddGroup, Ask, Deliver, ResetPeer, Clean, Fuse, Crash, Reopen}
 use Rattle.raft_cluster_events.specs.declared.outcome.EventOutcome.{EventOutcome}
-use Rattle.raft_cluster_events.specs.declared.outcome.EventOutcome.TheVariants.{Done, Refused, Stopped, TurnedAway}
+use Rattle.raft_cluster_events.specs.declared.outcome.EventOutcome.TheVariants.{Cleaned, Done, Refused, Stopped, TurnedAway}
 use Rattle.raft_cluster_events.specs.declared.outcome.Recorded.{Recorded}
 use Rattle.raft_cluster_events.specs.Node.{NodeActs}
 
@@ -27,6 +27,7 @@ delivered sent (AddGroup node group) = None
 delivered sent (Ask node group call now) = None
 delivered sent (Deliver group number cuts now) = slice_get (sent group) number
 delivered sent (ResetPeer node peer) = None
+delivered sent (Clean node) = None
 delivered sent (Fuse node first_refused) = None
 delivered sent (Crash node choice) = None
 delivered sent (Reopen node workers) = None
@@ -37,6 +38,7 @@ node_of sent (AddGroup node group) = Some node
 node_of sent (Ask node group call now) = Some node
 node_of sent (Deliver group number cuts now) = option_map (λ (frame : SentFrame). frame.peer) (slice_get (sent group) number)
 node_of sent (ResetPeer node peer) = Some node
+node_of sent (Clean node) = Some node
 node_of sent (Fuse node first_refused) = Some node
 node_of sent (Crash node choice) = Some node
 node_of sent (Reopen node workers) = Some node
@@ -47,6 +49,7 @@ cuts_of (AddGroup node group) = []
 cuts_of (Ask node group call now) = []
 cuts_of (Deliver group number cuts now) = cuts
 cuts_of (ResetPeer node peer) = []
+cuts_of (Clean node) = []
 cuts_of (Fuse node first_refused) = []
 cuts_of (Crash node choice) = []
 cuts_of (Reopen node workers) = []
@@ -56,6 +59,7 @@ cuts_of (Reopen node workers) = []
 -- it was neither refused nor turned away
 abbrev pub is_taken : EventOutcome → Bool
 is_taken (Done parts) = true
+is_taken (Cleaned groups) = true
 is_taken (Refused why) = false
 is_taken (Stopped stop) = true
 is_taken (TurnedAway why) = false
@@ -80,6 +84,7 @@ set_up_by_event group (Ask node g call now) taken = set_up_if (g == group) taken
 set_up_by_event group (AddGroup node g) taken = None
 set_up_by_event group (Deliver g number cuts now) taken = None
 set_up_by_event group (ResetPeer node peer) taken = None
+set_up_by_event group (Clean node) taken = None
 set_up_by_event group (Fuse node first_refused) taken = None
 set_up_by_event group (Crash node choice) taken = None
 set_up_by_event group (Reopen node workers) taken = None
@@ -110,6 +115,7 @@ asked_of history sent (Ask node group call now) = set_up_asked history group (me
 asked_of history sent (Deliver group number cuts now) =
     asked.Delivery (option_map (λ (frame : SentFrame). length frame.bytes) (slice_get (sent group) number))
 asked_of history sent (ResetPeer node peer) = asked.Call
+asked_of history sent (Clean node) = asked.Call
 asked_of history sent (Fuse node first_refused) = asked.Fuse
 asked_of history sent (Crash node choice) = asked.Crash
 asked_of history sent (Reopen node workers) = asked.Reopen

@@ -5,7 +5,7 @@ use Rattle.raft_cluster_conditions.specs.declared.reasons.ClusterRefusal.{Cluste
 use Rattle.raft_cluster_conditions.specs.declared.reasons.NodeStanding.TheVariants.{Missing}
 use Rattle.raft_cluster_conditions.specs.Refusal.{refusal_of}
 use Rattle.raft_cluster_events.specs.declared.event.ClusterEvent.{ClusterEvent}
-use Rattle.raft_cluster_events.specs.declared.event.ClusterEvent.TheVariants.{AddGroup, Ask, Deliver, ResetPeer, Fuse, Crash, Reopen}
+use Rattle.raft_cluster_events.specs.declared.event.ClusterEvent.TheVariants.{AddGroup, Ask, Deliver, ResetPeer, Clean, Fuse, Crash, Reopen}
 use Rattle.raft_cluster_events.specs.declared.outcome.CrashRefusal.TheVariants.{Memory}
 use Rattle.raft_cluster_events.specs.declared.outcome.EventOutcome.{EventOutcome}
 use Rattle.raft_cluster_events.specs.declared.outcome.EventOutcome.TheVariants.{TurnedAway}
@@ -64,6 +64,7 @@ sets_up group (Ask node g call now) = is_set_up call && g == group
 sets_up group (AddGroup node g) = false
 sets_up group (Deliver g number cuts now) = false
 sets_up group (ResetPeer node peer) = false
+sets_up group (Clean node) = false
 sets_up group (Fuse node first_refused) = false
 sets_up group (Crash node choice) = false
 sets_up group (Reopen node workers) = false
@@ -78,6 +79,7 @@ has_to_wait sent events (Ask node group call now) = is_set_up call && list_any (
 has_to_wait sent events (AddGroup node group) = false
 has_to_wait sent events (Deliver group number cuts now) = false
 has_to_wait sent events (ResetPeer node peer) = false
+has_to_wait sent events (Clean node) = false
 has_to_wait sent events (Fuse node first_refused) = false
 has_to_wait sent events (Crash node choice) = false
 has_to_wait sent events (Reopen node workers) = false

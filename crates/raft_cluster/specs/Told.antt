@@ -3,7 +3,7 @@ use Rattle.std.specs.Prelude.{ℕ, ◌==◌, List, [], Option, Some, None, slice
 use Rattle.std.specs.List.{find}
 use Rattle.raft_machines.specs.declared.telling.Told.{Told}
 use Rattle.raft_cluster_events.specs.declared.outcome.EventOutcome.{EventOutcome}
-use Rattle.raft_cluster_events.specs.declared.outcome.EventOutcome.TheVariants.{Done, Refused, Stopped, TurnedAway}
+use Rattle.raft_cluster_events.specs.declared.outcome.EventOutcome.TheVariants.{Cleaned, Done, Refused, Stopped, TurnedAway}
 use Rattle.raft_cluster_events.specs.declared.outcome.GroupOutcome.{GroupOutcome}
 use Rattle.raft_cluster_events.specs.declared.outcome.Recorded.{Recorded}
 
@@ -17,6 +17,7 @@ told_by group outcomes = told_in (find (λ (outcome : GroupOutcome). outcome.gro
 
 abbrev pub told_of : ℕ → EventOutcome → List Told
 told_of group (Done outcomes) = told_by group outcomes
+told_of group (Cleaned groups) = []
 told_of group (Refused why) = []
 told_of group (Stopped stop) = []
 told_of group (TurnedAway why) = []

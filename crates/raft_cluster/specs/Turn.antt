@@ -3,18 +3,18 @@ use Rattle.std.specs.Prelude.{◌≡◌, List, [], Option, Some, None, Result, O
 use Rattle.raft_cluster_conditions.specs.declared.reasons.ClusterRefusal.{ClusterRefusal}
 use Rattle.raft_cluster_conditions.specs.Refusal.{refusal_of}
 use Rattle.raft_cluster_events.specs.declared.event.ClusterEvent.{ClusterEvent}
-use Rattle.raft_cluster_events.specs.declared.event.ClusterEvent.TheVariants.{AddGroup, Ask, Deliver, ResetPeer, Fuse, Crash, Reopen}
+use Rattle.raft_cluster_events.specs.declared.event.ClusterEvent.TheVariants.{AddGroup, Ask, Deliver, ResetPeer, Clean, Fuse, Crash, Reopen}
 use Rattle.raft_cluster_events.specs.declared.outcome.CrashRefusal.{CrashRefusal}
 use Rattle.raft_cluster_events.specs.declared.outcome.EventOutcome.{EventOutcome}
 use Rattle.raft_cluster_events.specs.declared.outcome.EventOutcome.TheVariants.{Done, TurnedAway}
 use Rattle.raft_cluster_events.specs.declared.outcome.NodeError.{NodeError}
 use Rattle.raft_cluster_events.specs.declared.outcome.Recorded.{Recorded}
 use Rattle.raft_cluster_events.specs.Node.{NodeActs}
-use Rattle.raft_node_laws.specs.Answered.{Answered, none_of, opening_of, some_of}
+use Rattle.raft_node_laws.specs.Answered.{none_of, opening_of, some_of}
 use Rattle.raft_cluster.specs.declared.answer.Answer.{Answer}
-use Rattle.raft_cluster.specs.declared.answer.Answer.TheVariants.{OfGroup, Quiet, Opened, Spared}
+use Rattle.raft_cluster.specs.declared.answer.Answer.TheVariants.{OfGroup, Quiet, Cleaned, Opened, Spared}
 use Rattle.raft_cluster.specs.Facts.{Sent, asked_of, cuts_of, standing_of}
-use Rattle.raft_cluster.specs.Happening.{Answers, EndsAt, IsOfGroup, RefusesFor, over, turned_by}
+use Rattle.raft_cluster.specs.Happening.{Answers, EndsAt, IsOfGroup, NodeAnswer, Did, HasCleaned, RefusesFor, over, turned_by}
 
 -- an event that sends nothing is done, or it is over
 abbrev pub quietly : Result (Unit {0}) NodeError → EventOutcome
@@ -27,13 +27,14 @@ IsOpening (AddGroup node group) = ⊥
 IsOpening (Ask node group call now) = ⊥
 IsOpening (Deliver group number cuts now) = ⊥
 IsOpening (ResetPeer node peer) = ⊥
+IsOpening (Clean node) = ⊥
 IsOpening (Fuse node first_refused) = ⊥
 IsOpening (Crash node choice) = ⊥
 IsOpening (Reopen node workers) = Unit {0}
 
 module _ {N : Type 0} (acts : NodeActs N) where
   -- the event came to the node, which answered so, and is the one that it was
-  pub record HasCome (sent : Sent) (event : ClusterEvent) (before : N) (answered : Answered) (behind : N) : Type 0 where
+  pub record HasCome (sent : Sent) (event : ClusterEvent) (before : N) (answered : NodeAnswer) (behind : N) : Type 0 where
     pub answers : Answers acts sent event before answered behind
     pub id : acts.id behind ≡ acts.id before
 
@@ -46,9 +47,10 @@ module _ {N : Type 0} (acts : NodeActs N) where
 
   -- the node answered the event, and is this behind it
   abbrev pub IsAnswered : Sent → ClusterEvent → N → Answer → N → Type 0
-  IsAnswered sent event before (OfGroup r) behind = IsOfGroup event × HasCome sent event before (some_of r) behind
-  IsAnswered sent event before (Quiet r) behind = HasCome sent event before (none_of r) behind
-  IsAnswered sent event before (Opened r) behind = IsOpening event × HasCome sent event before (opening_of r) behind
+  IsAnswered sent event before (OfGroup r) behind = IsOfGroup event × HasCome sent event before (Did (some_of r)) behind
+  IsAnswered sent event before (Quiet r) behind = HasCome sent event before (Did (none_of r)) behind
+  IsAnswered sent event before (Cleaned r) behind = HasCome sent event before (HasCleaned r) behind
+  IsAnswered sent event before (Opened r) behind = IsOpening event × HasCome sent event before (Did (opening_of r)) behind
   IsAnswered sent event before (Spared away) behind = HasRefused event before away behind
 
   -- why the cluster turns an event for this node away behind a history, if it does

@@ -10,6 +10,8 @@ pub enum Answer {
     OfGroup(Result<Option<NodeOutcome>, NodeError>),
     /// To an event that sends nothing.
     Quiet(Result<(), NodeError>),
+    /// To the cleaning of its files: the groups that hold old ones back.
+    Cleaned(Result<Sequence<u64>, NodeError>),
     /// To its opening.
     Opened(Result<Sequence<NodeOutcome>, Stop>),
     /// It refused a crash, which is turned away for this.

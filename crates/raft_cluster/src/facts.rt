@@ -34,7 +34,8 @@ pub fn node_of(sent: &SentFrames, event: &ClusterEvent) -> Option<u64>
         | ClusterEvent::ResetPeer { node, .. }
         | ClusterEvent::Fuse { node, .. }
         | ClusterEvent::Crash { node, .. }
-        | ClusterEvent::Reopen { node, .. } => Some(*node),
+        | ClusterEvent::Reopen { node, .. }
+        | ClusterEvent::Clean { node } => Some(*node),
         ClusterEvent::Deliver { group, number, .. } => {
             sent.get(*group, *number).map(|frame| frame.peer)
         }
@@ -56,7 +57,7 @@ fn is_taken(outcome: &EventOutcome) -> bool
     ensures { result ≡ is_taken outcome.now }
 {
     match outcome {
-        EventOutcome::Done(_) | EventOutcome::Stopped(_) => true,
+        EventOutcome::Done(_) | EventOutcome::Cleaned(_) | EventOutcome::Stopped(_) => true,
         EventOutcome::Refused(_) | EventOutcome::TurnedAway(_) => false,
     }
 }
@@ -111,7 +112,9 @@ pub fn asked_of(history: &[Recorded], sent: &SentFrames, event: &ClusterEvent) -
     ensures { result ≡ asked_of history.now (frames_of sent.now) event.now }
 {
     match event {
-        ClusterEvent::AddGroup { .. } | ClusterEvent::ResetPeer { .. } => Asked::Call,
+        ClusterEvent::AddGroup { .. }
+        | ClusterEvent::ResetPeer { .. }
+        | ClusterEvent::Clean { .. } => Asked::Call,
         ClusterEvent::Ask { group, call, .. } => asked_by(history, *group, call),
         ClusterEvent::Deliver { group, number, .. } => Asked::Delivery {
             length: sent

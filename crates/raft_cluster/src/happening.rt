@@ -7,7 +7,7 @@ ghost use Rattle.raft_cluster_events.specs.declared.outcome.CrashRefusal.TheVari
 ghost use Rattle.raft_cluster.specs.Facts.{Sent, delivered};
 ghost use Rattle.raft_node_laws.specs.Answered.{one_of, opening_of, some_of};
 ghost use Rattle.raft_cluster.specs.Happening.{Delivers, EndsAt, IsOfGroup, RefusesFor, Settles};
-ghost use Rattle.raft_cluster.specs.Happening.{over, turned_by};
+ghost use Rattle.raft_cluster.specs.Happening.{Did, cleaned, over, turned_by};
 ghost use Rattle.raft_cluster.specs.Turn.{HappensAt, IsAnswered, quietly};
 
 use crate::answer::Answer;
@@ -40,7 +40,7 @@ fn settle_one<N: ClusterNode>(
     node: &mut N,
     outcome: NodeOutcome,
 ) -> EventOutcome
-    ensures does { (event : Event) → IsOfGroup event → Settles N.acts (frames_of sent.old) event node.old (Ok (outcome ∷ [])) result (frames_of sent.new) node.new }
+    ensures does { (event : Event) → IsOfGroup event → Settles N.acts (frames_of sent.old) event node.old (Did (Ok (outcome ∷ []))) result (frames_of sent.new) node.new }
     ensures id { N.acts.id node.new ≡ N.acts.id node.old }
 {
     match send_alone(alloc, sent, node.id(), outcome) {
@@ -63,7 +63,7 @@ fn settle_group<N: ClusterNode>(
     node: &mut N,
     answered: Result<Option<NodeOutcome>, NodeError>,
 ) -> EventOutcome
-    ensures does { (event : Event) → IsOfGroup event → Settles N.acts (frames_of sent.old) event node.old (some_of answered) result (frames_of sent.new) node.new }
+    ensures does { (event : Event) → IsOfGroup event → Settles N.acts (frames_of sent.old) event node.old (Did (some_of answered)) result (frames_of sent.new) node.new }
     ensures id { N.acts.id node.new ≡ N.acts.id node.old }
 {
     match answered {
@@ -83,6 +83,16 @@ fn settle_quietly(alloc: Global, answered: Result<(), NodeError>) -> EventOutcom
     }
 }
 
+// What a cleaning answered becomes its outcome.
+fn settle_cleaning(answered: Result<Sequence<u64>, NodeError>) -> EventOutcome
+    ensures { result ≡ cleaned answered }
+{
+    match answered {
+        Ok(groups) => EventOutcome::Cleaned(groups),
+        Err(error) => over(error),
+    }
+}
+
 // What an opening did becomes its outcome. Without memory for that the node goes down again.
 fn settle_opening<N: ClusterNode>(
     alloc: Global,
@@ -90,7 +100,7 @@ fn settle_opening<N: ClusterNode>(
     node: &mut N,
     answered: Result<Sequence<NodeOutcome>, Stop>,
 ) -> EventOutcome
-    ensures does { (at workers : ℕ) → Settles N.acts (frames_of sent.old) (Reopen at workers) node.old (opening_of answered) result (frames_of sent.new) node.new }
+    ensures does { (at workers : ℕ) → Settles N.acts (frames_of sent.old) (Reopen at workers) node.old (Did (opening_of answered)) result (frames_of sent.new) node.new }
     ensures id { N.acts.id node.new ≡ N.acts.id node.old }
 {
     match answered {
@@ -117,7 +127,7 @@ fn deliver_event<N: ClusterNode>(
     cuts: &[u64],
     now: u64,
 ) -> Result<Option<NodeOutcome>, NodeError>
-    ensures delivers { Delivers N.acts (delivered (frames_of sent.now) event.now) cuts.now now node.old (some_of result) node.new }
+    ensures delivers { Delivers N.acts (delivered (frames_of sent.now) event.now) cuts.now now node.old (Did (some_of result)) node.new }
     ensures id { N.acts.id node.new ≡ N.acts.id node.old }
 {
     match delivered(sent, event) {
@@ -193,6 +203,7 @@ pub fn ask_node<N: ClusterNode>(
             Ok(Answer::OfGroup(answered))
         }
         ClusterEvent::ResetPeer { peer, .. } => Ok(Answer::Quiet(node.reset_peer(*peer))),
+        ClusterEvent::Clean { .. } => Ok(Answer::Cleaned(node.clean_files())),
         ClusterEvent::Fuse { first_refused, .. } => {
             node.fuse(*first_refused);
             Ok(Answer::Quiet(Ok(())))
@@ -215,6 +226,7 @@ pub fn settle<N: ClusterNode>(
     match answer {
         Answer::OfGroup(answered) => settle_group(alloc, sent, node, answered),
         Answer::Quiet(answered) => settle_quietly(alloc, answered),
+        Answer::Cleaned(answered) => settle_cleaning(answered),
         Answer::Opened(answered) => settle_opening(alloc, sent, node, answered),
         Answer::Spared(away) => EventOutcome::TurnedAway(away),
     }

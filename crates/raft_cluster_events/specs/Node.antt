@@ -22,6 +22,8 @@ pub record NodeActs (N : Type 0) : Type 1 where
   pub feeds : N → ℕ → List ℕ → ℕ → Result (Option NodeOutcome) NodeError → N → Type 0
   -- a peer's stream begins anew
   pub resets : N → ℕ → Result (Unit {0}) NodeError → N → Type 0
+  -- its log is cleaned, and these groups hold old files of it back
+  pub cleans : N → Result (List ℕ) NodeError → N → Type 0
   -- it stops for want of memory outside of it
   pub fails : N → Stop → N → Type 0
   -- its files refuse calls from this one on, or none any more

@@ -44,6 +44,10 @@ pub enum ClusterEvent {
         node: u64,
         peer: u64,
     },
+    /// The node's log is cleaned, where it is time for that: what is no longer needed of its files goes.
+    Clean {
+        node: u64,
+    },
     /// The node's files refuse each changing call from this one on, the first one counted as 1; with
     /// none they refuse no call any more. So a machine stops inside a call of its files.
     Fuse {

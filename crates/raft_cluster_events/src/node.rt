@@ -78,6 +78,13 @@ pub trait ClusterNode: Drop {
         ensures id { acts.id self.new ≡ acts.id self.old }
         ensures up { acts.is_up self.new ≡ acts.is_up self.old };
 
+    /// The node's log is cleaned, where it is time for that. Answers the groups that hold old files of
+    /// it back, by rising group.
+    fn clean_files(&mut self) -> Result<Sequence<u64>, NodeError>
+        ensures does { acts.cleans self.old result self.new }
+        ensures id { acts.id self.new ≡ acts.id self.old }
+        ensures up { acts.is_up self.new ≡ acts.is_up self.old };
+
     /// The node stops for want of memory outside of it.
     fn fail(&mut self) -> Stop
         ensures does { acts.fails self.old result self.new }

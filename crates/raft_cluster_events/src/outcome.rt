@@ -117,6 +117,9 @@ pub enum EventOutcome {
     /// It was done, and did this in its group; an opening did so in each group of the node, by rising
     /// group.
     Done(Sequence<GroupOutcome>),
+    /// Its node's log was cleaned, where it was time for that. These groups hold old files of it back,
+    /// by rising group: a snapshot and a purge of each of them let these go.
+    Cleaned(Sequence<u64>),
     /// Its node refused it.
     Refused(NodeRefusal),
     /// Its node stopped in it.

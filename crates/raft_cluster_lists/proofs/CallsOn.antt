@@ -64,6 +64,7 @@ first_asked s before (event.AddGroup n g) brought said brings first = nothing_fi
 first_asked s before (event.Ask n g call now) brought said brings first = asked_first s call brought.set_up said brings.set_up first
 first_asked s before (event.Deliver g number cuts now) brought said brings first = nothing_first s brought.set_up said brings.set_up first
 first_asked s before (event.ResetPeer n peer) brought said brings first = nothing_first s brought.set_up said brings.set_up first
+first_asked s before (event.Clean n) brought said brings first = nothing_first s brought.set_up said brings.set_up first
 first_asked s before (event.Fuse n first_refused) brought said brings first = nothing_first s brought.set_up said brings.set_up first
 first_asked s before (event.Crash n choice) brought said brings first = nothing_first s brought.set_up said brings.set_up first
 first_asked s before (event.Reopen n workers) brought said brings first = nothing_first s brought.set_up said brings.set_up first
@@ -79,6 +80,7 @@ brings_written s before lead (event.Ask m g asked at) brought n call now brings 
     subst (λ c. IsWrittenBy s lead.vote c brought.written) one (written_at s before lead asked brought.written is brings.written)
 brings_written s before lead (event.Deliver g number cuts at) brought n call now brings is same = absurd (let no : world.Deliver number at ≡ world.Ask n call now = same in cc)
 brings_written s before lead (event.ResetPeer m peer) brought n call now brings is same = absurd (let no : world.Halt m ≡ world.Ask n call now = same in cc)
+brings_written s before lead (event.Clean m) brought n call now brings is same = absurd (let no : world.Halt m ≡ world.Ask n call now = same in cc)
 brings_written s before lead (event.Fuse m first_refused) brought n call now brings is same = absurd (let no : world.Halt m ≡ world.Ask n call now = same in cc)
 brings_written s before lead (event.Crash m choice) brought n call now brings is same = absurd (let no : world.Crash m ≡ world.Ask n call now = same in cc)
 brings_written s before lead (event.Reopen m workers) brought n call now brings is same = absurd (let no : world.Restart m ≡ world.Ask n call now = same in cc)
@@ -93,6 +95,7 @@ listed_once sent accepted once first =
 
 pub elsewhere : (node n : ℕ) (written : Option EntryPayload) (o : EventOutcome) (before : ℕ → Option EntryPayload) → (n ≡ node → ⊥) → stopped_behind node written o before n ≡ before n
 elsewhere node n written (outcome.Done parts) before other = refl
+elsewhere node n written (outcome.Cleaned groups) before other = refl
 elsewhere node n written (outcome.Refused why) before other = refl
 elsewhere node n written (outcome.Stopped stop) before other = ap (λ b. if b then option_or written (before n) else before n) (ne_eqb n node other)
 elsewhere node n written (outcome.TurnedAway why) before other = refl

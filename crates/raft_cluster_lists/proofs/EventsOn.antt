@@ -23,13 +23,14 @@ use Rattle.raft_cluster_lists.specs.Keeping.{GroupNotes, IsKeptIn, IsUntouched}
 use Rattle.raft_cluster_lists.proofs.CallsOn.{done_on, refused_on, stopped_on}
 use Rattle.raft_cluster_lists.proofs.HaltsOn.{halted_on}
 use Rattle.raft_cluster_lists.proofs.OthersOn.{IsAside, aside_on, opened_on, opening_done, opening_seen, others_aside, passed_on, unopened_on, untouched_aside, untouched_opened}
-use Rattle.raft_cluster_lists.proofs.PlainEvents.{away_passed, call_done, halt_seen, itself}
+use Rattle.raft_cluster_lists.proofs.PlainEvents.{away_passed, call_done, call_not_cleaned, halt_seen, itself, opening_not_cleaned}
 
 pub opens : (e : ClusterEvent) → IsOpening e ⊎ (IsOpening e → ⊥)
 opens (event.AddGroup n g) = inr (λ never. never)
 opens (event.Ask n g call now) = inr (λ never. never)
 opens (event.Deliver g number cuts now) = inr (λ never. never)
 opens (event.ResetPeer n peer) = inr (λ never. never)
+opens (event.Clean n) = inr (λ never. never)
 opens (event.Fuse n first_refused) = inr (λ never. never)
 opens (event.Crash n choice) = inr (λ never. never)
 opens (event.Reopen n workers) = inl tt
@@ -77,6 +78,7 @@ module _ (rules : MachineRules) (ids : List ℕ) (fit : AreNodeIds ids) (h : ℕ
       let (said, done) = call_done plain h e parts r.outcome c.of_group c.recorded.outcome in
       let told = itself (plain_event e) r.node r.outcome r.event c.recorded.event (ap is_stopped done) in
       done_on rules ids fit h plain e (outcome.Done parts) r olds news k next c old new there told (ap is_turned_away done) parts refl said done was
+  calls_go_on (outcome.Cleaned groups) r olds news k next c old new there was = absurd (call_not_cleaned h e groups r.outcome c.of_group c.recorded.outcome)
   calls_go_on (outcome.Refused why) r olds news k next c old new there was =
       let going = refusal_goes why r.outcome c.recorded.outcome in
       let told = itself (plain_event e) r.node r.outcome r.event c.recorded.event going.goes in
@@ -98,6 +100,7 @@ module _ (rules : MachineRules) (ids : List ℕ) (fit : AreNodeIds ids) (h : ℕ
       let told = itself (plain_event e) r.node r.outcome r.event c.recorded.event (ap is_stopped done) in
       let seen = opening_seen plain h r e c.opening c.recorded.node told (ap is_turned_away done) in
       opened_on rules ids fit h plain r olds news old new there seen.node seen.seen e (outcome.Done parts) k next c seen.own was parts refl all done
+  openings_go_on (outcome.Cleaned groups) r olds news k next c old new there was = absurd (opening_not_cleaned e groups r.outcome c.opening c.recorded.outcome)
   openings_go_on (outcome.Refused why) r olds news k next c old new there was = absurd (c.taken why refl)
   openings_go_on (outcome.Stopped stop) r olds news k next c old new there was =
       let stopped = c.recorded.outcome in
@@ -131,6 +134,7 @@ module _ (rules : MachineRules) (ids : List ℕ) (fit : AreNodeIds ids) (h : ℕ
       opening_there (outcome.Done parts) is said opening =
           let (all, done) = opening_done plain e parts r.outcome opening said in
           opened_there opening (itself (plain_event e) r.node r.outcome r.event c.recorded.event (ap is_stopped done)) (ap is_turned_away done)
+      opening_there (outcome.Cleaned groups) is said opening = absurd (opening_not_cleaned e groups r.outcome opening said)
       opening_there (outcome.Refused why) is said opening = absurd (c.taken why is opening)
       opening_there (outcome.Stopped stop) is stopped opening =
           let here = ap is_turned_away stopped in

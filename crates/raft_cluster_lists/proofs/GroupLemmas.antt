@@ -7,7 +7,7 @@ use Rattle.raft_list_facts.specs.declared.acceptance.Acceptance.{Acceptance}
 use Rattle.raft_cluster_events.specs.declared.outcome.EventOutcome.{EventOutcome}
 use Rattle.raft_list_facts.specs.declared.leading.Leading.{Leading}
 use Rattle.raft_cluster_events.specs.declared.event.ClusterEvent.{ClusterEvent}
-use Rattle.raft_cluster_events.specs.declared.event.ClusterEvent.TheVariants.{AddGroup, Ask, Deliver, ResetPeer, Fuse, Crash, Reopen}
+use Rattle.raft_cluster_events.specs.declared.event.ClusterEvent.TheVariants.{AddGroup, Ask, Deliver, ResetPeer, Clean, Fuse, Crash, Reopen}
 use Rattle.raft_cluster_lists.specs.declared.brought.Brought.{Brought}
 use Rattle.raft_cluster_lists.specs.declared.kept.KeptGroup.{KeptGroup}
 use Rattle.raft_cluster_lists.specs.declared.kept.StoppedCall.{StoppedCall}
@@ -65,6 +65,7 @@ opening_alone (AddGroup node group) g opens e = opens
 opening_alone (Ask node group call now) g opens e = opens
 opening_alone (Deliver group number cuts now) g opens e = opens
 opening_alone (ResetPeer node peer) g opens e = opens
+opening_alone (Clean node) g opens e = opens
 opening_alone (Fuse node first_refused) g opens e = opens
 opening_alone (Crash node choice) g opens e = opens
 opening_alone (Reopen node workers) g opens e = let f : None ≡ Some g = e in cc

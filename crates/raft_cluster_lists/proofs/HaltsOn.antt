@@ -55,6 +55,7 @@ brought_set_up s before (event.Ask n g call now) brought x brings is =
     let one = subst (IsAskedBy call) is brings.set_up in record { asked = one.asked; voters = one.voters }
 brought_set_up s before (event.Deliver g number cuts now) brought x brings is = nothing_brought (event.Deliver g number cuts now) brought x brings.set_up is
 brought_set_up s before (event.ResetPeer n peer) brought x brings is = nothing_brought (event.ResetPeer n peer) brought x brings.set_up is
+brought_set_up s before (event.Clean n) brought x brings is = nothing_brought (event.Clean n) brought x brings.set_up is
 brought_set_up s before (event.Fuse n first_refused) brought x brings is = nothing_brought (event.Fuse n first_refused) brought x brings.set_up is
 brought_set_up s before (event.Crash n choice) brought x brings is = nothing_brought (event.Crash n choice) brought x brings.set_up is
 brought_set_up s before (event.Reopen n workers) brought x brings is = nothing_brought (event.Reopen n workers) brought x brings.set_up is

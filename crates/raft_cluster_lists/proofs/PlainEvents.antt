@@ -17,10 +17,10 @@ use Rattle.raft_headline.specs.Seen.{Halted, Own, Passed, own_or_aside, seen_by,
 use Rattle.raft_cluster_events.specs.declared.event.ClusterEvent.{ClusterEvent}
 use Rattle.raft_cluster_events.specs.declared.event.ClusterEvent.TheVariants as event
 use Rattle.raft_cluster_events.specs.declared.outcome.GroupOutcome.{GroupOutcome}
-use Rattle.raft_node_laws.specs.Reporting.{DoneAs, plain_event}
+use Rattle.raft_node_laws.specs.Reporting.{CleanedAs, DoneAs, plain_event}
 use Rattle.raft_node_laws.specs.Saying.{IsToldAs}
 use Rattle.raft_cluster_lists.specs.GoingOn.{asked_in}
-use Rattle.raft_cluster_lists.specs.Hearing.{group_of}
+use Rattle.raft_cluster_lists.specs.Hearing.{IsOpening, group_of}
 
 -- ---- events
 
@@ -36,6 +36,7 @@ world_event (event.AddGroup n g) = world.Add n
 world_event (event.Ask n g call now) = world.Ask n call now
 world_event (event.Deliver g number cuts now) = world.Deliver number now
 world_event (event.ResetPeer n peer) = world.Halt n
+world_event (event.Clean n) = world.Halt n
 world_event (event.Fuse n first_refused) = world.Halt n
 world_event (event.Crash n choice) = world.Crash n
 world_event (event.Reopen n workers) = world.Restart n
@@ -45,6 +46,7 @@ own_seen h at (event.AddGroup n g) o is = ap (λ b. own_or_aside b (world.Add n)
 own_seen h at (event.Ask n g call now) o is = ap (λ b. own_or_aside b (world.Ask n call now) n o) (eq-eqb g h (same_group g h is))
 own_seen h at (event.Deliver g number cuts now) o is = ap (λ b. own_or_aside b (world.Deliver number now) at o) (eq-eqb g h (same_group g h is))
 own_seen h at (event.ResetPeer n peer) o is = absurd (no_group h is)
+own_seen h at (event.Clean n) o is = absurd (no_group h is)
 own_seen h at (event.Fuse n first_refused) o is = absurd (no_group h is)
 own_seen h at (event.Crash n choice) o is = absurd (no_group h is)
 own_seen h at (event.Reopen n workers) o is = absurd (no_group h is)
@@ -59,6 +61,7 @@ no_opening h (event.AddGroup n g) is = refl
 no_opening h (event.Ask n g call now) is = refl
 no_opening h (event.Deliver g number cuts now) is = refl
 no_opening h (event.ResetPeer n peer) is = absurd (no_group h is)
+no_opening h (event.Clean n) is = absurd (no_group h is)
 no_opening h (event.Fuse n first_refused) is = absurd (no_group h is)
 no_opening h (event.Crash n choice) is = absurd (no_group h is)
 no_opening h (event.Reopen n workers) is = absurd (no_group h is)
@@ -72,6 +75,7 @@ same_asked h (event.AddGroup n g) is = refl
 same_asked h (event.Ask n g call now) is = refl
 same_asked h (event.Deliver g number cuts now) is = refl
 same_asked h (event.ResetPeer n peer) is = refl
+same_asked h (event.Clean n) is = refl
 same_asked h (event.Fuse n first_refused) is = refl
 same_asked h (event.Crash n choice) is = refl
 same_asked h (event.Reopen n workers) is = refl
@@ -98,9 +102,32 @@ call_done plain h (event.AddGroup n g) parts o is done = (done.said, done.done)
 call_done plain h (event.Ask n g call now) parts o is done = (done.said, done.done)
 call_done plain h (event.Deliver g number cuts now) parts o is done = (done.said, done.done)
 call_done plain h (event.ResetPeer n peer) parts o is done = absurd (no_group h is)
+call_done plain h (event.Clean n) parts o is done = absurd (no_group h is)
 call_done plain h (event.Fuse n first_refused) parts o is done = absurd (no_group h is)
 call_done plain h (event.Crash n choice) parts o is done = absurd (no_group h is)
 call_done plain h (event.Reopen n workers) parts o is done = absurd (no_group h is)
+
+-- a node is cleaned by no call of a group
+pub call_not_cleaned : (h : ℕ) (e : ClusterEvent) (groups : List ℕ) (o : PlainOutcome) → group_of e ≡ Some h → CleanedAs e groups o → ⊥
+call_not_cleaned h (event.AddGroup n g) groups o is never = never
+call_not_cleaned h (event.Ask n g call now) groups o is never = never
+call_not_cleaned h (event.Deliver g number cuts now) groups o is never = never
+call_not_cleaned h (event.ResetPeer n peer) groups o is never = never
+call_not_cleaned h (event.Clean n) groups o is cleaned = no_group h is
+call_not_cleaned h (event.Fuse n first_refused) groups o is never = never
+call_not_cleaned h (event.Crash n choice) groups o is never = never
+call_not_cleaned h (event.Reopen n workers) groups o is never = never
+
+-- nor by an opening
+pub opening_not_cleaned : (e : ClusterEvent) (groups : List ℕ) (o : PlainOutcome) → IsOpening e → CleanedAs e groups o → ⊥
+opening_not_cleaned (event.AddGroup n g) groups o opens cleaned = opens
+opening_not_cleaned (event.Ask n g call now) groups o opens cleaned = opens
+opening_not_cleaned (event.Deliver g number cuts now) groups o opens cleaned = opens
+opening_not_cleaned (event.ResetPeer n peer) groups o opens cleaned = opens
+opening_not_cleaned (event.Clean n) groups o opens cleaned = opens
+opening_not_cleaned (event.Fuse n first_refused) groups o opens cleaned = opens
+opening_not_cleaned (event.Crash n choice) groups o opens cleaned = opens
+opening_not_cleaned (event.Reopen n workers) groups o opens cleaned = cleaned
 
 pub record IsEnded (said : Said) (o : Outcome) : Type 0 where
   pub sent : List Message

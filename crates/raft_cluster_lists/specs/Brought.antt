@@ -8,7 +8,7 @@ use Rattle.raft_group_lists.specs.Notes.{Notes}
 use Rattle.raft_list_reports.specs.Calls.{IsWrittenBy}
 use Rattle.raft_list_facts.specs.declared.leading.Leading.{Leading}
 use Rattle.raft_cluster_events.specs.declared.event.ClusterEvent.{ClusterEvent}
-use Rattle.raft_cluster_events.specs.declared.event.ClusterEvent.TheVariants.{AddGroup, Ask, Deliver, ResetPeer, Fuse, Crash, Reopen}
+use Rattle.raft_cluster_events.specs.declared.event.ClusterEvent.TheVariants.{AddGroup, Ask, Deliver, ResetPeer, Clean, Fuse, Crash, Reopen}
 use Rattle.raft_cluster_lists.specs.declared.brought.Brought.{Brought}
 
 -- this set-up is asked for, with its voters
@@ -42,6 +42,7 @@ Brings s leading (AddGroup node group) brought = IsNothing brought
 Brings s leading (Ask node group call now) brought = IsBroughtBy s leading call brought
 Brings s leading (Deliver group number cuts now) brought = IsNothing brought
 Brings s leading (ResetPeer node peer) brought = IsNothing brought
+Brings s leading (Clean node) brought = IsNothing brought
 Brings s leading (Fuse node first_refused) brought = IsNothing brought
 Brings s leading (Crash node choice) brought = IsNothing brought
 Brings s leading (Reopen node workers) brought = IsNothing brought

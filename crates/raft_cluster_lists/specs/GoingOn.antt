@@ -35,6 +35,7 @@ asked_in (event.AddGroup node group) = None
 asked_in (event.Ask node group call now) = setup_in_call call
 asked_in (event.Deliver group number cuts now) = None
 asked_in (event.ResetPeer node peer) = None
+asked_in (event.Clean node) = None
 asked_in (event.Fuse node first_refused) = None
 asked_in (event.Crash node choice) = None
 asked_in (event.Reopen node workers) = None
@@ -42,6 +43,7 @@ asked_in (event.Reopen node workers) = None
 -- it was neither refused nor turned away
 abbrev pub IsTaken : EventOutcome → Type 0
 IsTaken (outcome.Done parts) = Unit {0}
+IsTaken (outcome.Cleaned groups) = Unit {0}
 IsTaken (outcome.Refused why) = ⊥
 IsTaken (outcome.Stopped stop) = Unit {0}
 IsTaken (outcome.TurnedAway why) = ⊥

@@ -10,9 +10,9 @@ use Rattle.raft_list_steps.specs.Reports.{Hears, HearsAhead, HearsSetUp}
 use Rattle.raft_list_steps.specs.declared.report.GroupReport.{GroupReport}
 use Rattle.raft_list_steps.specs.declared.report.SetUp.{SetUp}
 use Rattle.raft_cluster_events.specs.declared.event.ClusterEvent.{ClusterEvent}
-use Rattle.raft_cluster_events.specs.declared.event.ClusterEvent.TheVariants.{AddGroup, Ask, Deliver, ResetPeer, Fuse, Crash, Reopen}
+use Rattle.raft_cluster_events.specs.declared.event.ClusterEvent.TheVariants.{AddGroup, Ask, Deliver, ResetPeer, Clean, Fuse, Crash, Reopen}
 use Rattle.raft_cluster_events.specs.declared.outcome.EventOutcome.{EventOutcome}
-use Rattle.raft_cluster_events.specs.declared.outcome.EventOutcome.TheVariants.{Done, Refused, Stopped, TurnedAway}
+use Rattle.raft_cluster_events.specs.declared.outcome.EventOutcome.TheVariants.{Cleaned, Done, Refused, Stopped, TurnedAway}
 use Rattle.raft_cluster_events.specs.declared.outcome.NodeRefusal.{NodeRefusal}
 use Rattle.raft_cluster_events.specs.declared.outcome.NodeRefusal.TheVariants.{Failed}
 use Rattle.raft_cluster_lists.specs.declared.brought.Brought.{Brought}
@@ -27,6 +27,7 @@ group_of (AddGroup node group) = Some group
 group_of (Ask node group call now) = Some group
 group_of (Deliver group number cuts now) = Some group
 group_of (ResetPeer node peer) = None
+group_of (Clean node) = None
 group_of (Fuse node first_refused) = None
 group_of (Crash node choice) = None
 group_of (Reopen node workers) = None
@@ -37,6 +38,7 @@ IsOpening (AddGroup node group) = ⊥
 IsOpening (Ask node group call now) = ⊥
 IsOpening (Deliver group number cuts now) = ⊥
 IsOpening (ResetPeer node peer) = ⊥
+IsOpening (Clean node) = ⊥
 IsOpening (Fuse node first_refused) = ⊥
 IsOpening (Crash node choice) = ⊥
 IsOpening (Reopen node workers) = Unit {0}
@@ -59,6 +61,7 @@ unless_failed why leading = leading
 abbrev pub report_of : ℕ → Option Leading → Option Acceptance → Option SetUp → Option EntryPayload → EventOutcome → Option GroupReport
 report_of node leading accepted set_up written (Done parts) =
     Some (record { node = node; set_up = set_up; leading = leading; written = written; accepted = accepted })
+report_of node leading accepted set_up written (Cleaned groups) = None
 report_of node leading accepted set_up written (Refused why) =
     Some (record { node = node; set_up = None; leading = unless_failed why leading; written = None; accepted = None })
 report_of node leading accepted set_up written (Stopped stop) =
@@ -69,6 +72,7 @@ report_of node leading accepted set_up written (TurnedAway why) = None
 abbrev pub opening_report : ℕ → Option Leading → Option EntryPayload → EventOutcome → Option GroupReport
 opening_report node leading written (Done parts) =
     Some (record { node = node; set_up = None; leading = leading; written = written; accepted = None })
+opening_report node leading written (Cleaned groups) = None
 opening_report node leading written (Refused why) = None
 opening_report node leading written (Stopped stop) = None
 opening_report node leading written (TurnedAway why) = None
@@ -83,6 +87,7 @@ HearsOf (Some report) s next = Hears s report next × HearsAhead s report next �
 -- what the call writes that stopped at a node last, behind one at this node
 abbrev pub stopped_behind : ℕ → Option EntryPayload → EventOutcome → (ℕ → Option EntryPayload) → ℕ → Option EntryPayload
 stopped_behind node written (Done parts) before other = before other
+stopped_behind node written (Cleaned groups) before other = before other
 stopped_behind node written (Refused why) before other = before other
 stopped_behind node written (Stopped stop) before other = if other == node then option_or written (before other) else before other
 stopped_behind node written (TurnedAway why) before other = before other
@@ -90,6 +95,7 @@ stopped_behind node written (TurnedAway why) before other = before other
 -- what stopped at a node is kept until the node is opened
 abbrev pub IsKeptUntilDone : EventOutcome → Option EntryPayload → Option EntryPayload → Type 0
 IsKeptUntilDone (Done parts) before behind = Unit {0}
+IsKeptUntilDone (Cleaned groups) before behind = behind ≡ before
 IsKeptUntilDone (Refused why) before behind = behind ≡ before
 IsKeptUntilDone (Stopped stop) before behind = behind ≡ before
 IsKeptUntilDone (TurnedAway why) before behind = behind ≡ before

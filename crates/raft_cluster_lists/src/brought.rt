@@ -33,6 +33,7 @@ pub fn group_of(event: &ClusterEvent) -> Option<u64>
         | ClusterEvent::Ask { group, .. }
         | ClusterEvent::Deliver { group, .. } => Some(*group),
         ClusterEvent::ResetPeer { .. }
+        | ClusterEvent::Clean { .. }
         | ClusterEvent::Fuse { .. }
         | ClusterEvent::Crash { .. }
         | ClusterEvent::Reopen { .. } => None,

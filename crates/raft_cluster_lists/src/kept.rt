@@ -185,6 +185,7 @@ impl KeptGroup {
                 hear(&mut self.list, of_leader(node, leading, None));
             }
             EventOutcome::Stopped(_) => self.hear_stop(node, set_up, written),
+            EventOutcome::Cleaned(_) => {}
             EventOutcome::TurnedAway(_) => {}
         }
     }

@@ -1,5 +1,5 @@
 //! Runs a script on a cluster of nodes that have no rules of groups: what the cluster itself does of
-//! it is seen. The group of a reply is the tick. Then it runs three lists of events at once.
+//! it is seen. The group of a reply is the tick. Then it runs four lists of events at once.
 #![tactic(auto)]
 
 mod runs;

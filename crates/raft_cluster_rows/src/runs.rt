@@ -75,6 +75,25 @@ fn fuses(alloc: Global) -> Result<Vec<ClusterEvent>, AllocError> {
     Ok(events)
 }
 
+fn clean(node: u64) -> ClusterEvent {
+    ClusterEvent::Clean { node }
+}
+
+// A cleaning, one behind a fuse and one where it is lifted. Then one of a node that is down, and one of a
+// node that isn't there.
+fn cleanings(alloc: Global) -> Result<Vec<ClusterEvent>, AllocError> {
+    let mut events = Vec::new(alloc);
+    events.push(clean(2))?;
+    events.push(fuse(1, Some(1)))?;
+    events.push(clean(1))?;
+    events.push(fuse(1, None))?;
+    events.push(clean(1))?;
+    events.push(crash())?;
+    events.push(clean(1))?;
+    events.push(clean(4))?;
+    Ok(events)
+}
+
 // A run behind a function without clauses: a proof that carries them takes long.
 fn run(cluster: &mut Cluster<ToyNode>, events: Vec<ClusterEvent>) -> usize {
     cluster.run(events)
@@ -83,6 +102,7 @@ fn run(cluster: &mut Cluster<ToyNode>, events: Vec<ClusterEvent>) -> usize {
 fn word(recorded: &Recorded) -> &'static str {
     match &recorded.outcome {
         EventOutcome::Done(_) => " done",
+        EventOutcome::Cleaned(_) => " cleaned",
         EventOutcome::Refused(_) => " refused",
         EventOutcome::Stopped(_) => " stopped",
         EventOutcome::TurnedAway(ClusterRefusal::NoNode) => " no-node",
@@ -104,12 +124,14 @@ fn told(alloc: Global, events: Vec<ClusterEvent>) -> Result<String, AllocError> 
     Ok(text)
 }
 
-/// What three lists of events do, a line each.
+/// What four lists of events do, a line each.
 pub fn run_events(alloc: Global) -> Result<String, AllocError> {
     let mut text = told(alloc, events(alloc)?)?;
     text.push_str("\n")?;
     text.push_str(told(alloc, crashes(alloc)?)?.as_str())?;
     text.push_str("\n")?;
     text.push_str(told(alloc, fuses(alloc)?)?.as_str())?;
+    text.push_str("\n")?;
+    text.push_str(told(alloc, cleanings(alloc)?)?.as_str())?;
     Ok(text)
 }

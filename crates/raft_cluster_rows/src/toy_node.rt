@@ -16,7 +16,8 @@ const FRAME: usize = 3;
 /// It has no machine and no files. An election sends a frame of three bytes to each of nodes 1 to 3, a
 /// frame that is whole is answered by one to its sender, and a lost request stops it. A crash that
 /// leaves the most is refused by chance where the last purge was up to place 6, as no image for 7, and
-/// for want of memory for 10. Behind a fuse an election stops it, until the fuse is lifted.
+/// for want of memory for 10. A cleaning of node 2 names groups 7 and 12. Behind a fuse an election or
+/// a cleaning stops it, until the fuse is lifted.
 #[derive(Drop)]
 pub struct ToyNode {
     alloc: Global,
@@ -72,6 +73,16 @@ impl ToyNode {
         })
     }
 
+    // The groups that hold old files back.
+    fn holding(&self) -> Result<Sequence<u64>, AllocError> {
+        let mut groups = Sequence::new(self.alloc);
+        if self.id == 2 {
+            groups.push(7)?;
+            groups.push(12)?;
+        }
+        Ok(groups)
+    }
+
     fn stopped(&self, group: u64, token: u64) -> NodeError {
         match self.stop(group, token) {
             Ok(stop) => NodeError::Stopped(stop),
@@ -93,6 +104,7 @@ impl ClusterNode for ToyNode {
       asks = λ old group call now answered new. Unit {0};
       feeds = λ old peer piece now answered new. Unit {0};
       resets = λ old peer answered new. Unit {0};
+      cleans = λ old answered new. Unit {0};
       fails = λ old stop new. Unit {0};
       fuses = λ old first_refused new. Unit {0};
       crashes = λ old choice new. Unit {0};
@@ -172,6 +184,13 @@ impl ClusterNode for ToyNode {
     fn reset_peer(&mut self, _peer: u64) -> Result<(), NodeError> {
         self.held = 0;
         Ok(())
+    }
+
+    fn clean_files(&mut self) -> Result<Sequence<u64>, NodeError> {
+        if self.is_fused {
+            return Err(self.stopped(7, self.id));
+        }
+        done(self.holding(), self.alloc)
     }
 
     fn fail(&mut self) -> Stop {

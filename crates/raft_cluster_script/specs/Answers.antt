@@ -91,9 +91,10 @@ refusal_of_cluster cluster.ByChance = shown.ByChance
 refusal_of_cluster cluster.NotAnImage = shown.NotAnImage
 refusal_of_cluster cluster.BadCut = shown.BadCut
 
--- frames of all groups first, then what is told, then the unknown tokens. No group is ever compacted yet
+-- frames of all groups first, then what is told, then the unknown tokens; of a cleaning the groups that hold old files back
 abbrev pub outcome_text : EventOutcome → List ℕ
 outcome_text (outcomes.Done parts) = done_text (numbers_of parts) (totals_of parts) (unknown_of parts) []
+outcome_text (outcomes.Cleaned groups) = done_text [] [] [] groups
 outcome_text (outcomes.Refused why) = refused_text (refusal_of_node why) []
 outcome_text (outcomes.Stopped stop) = refused_text shown.Stopped (tokens_of_stop stop)
 outcome_text (outcomes.TurnedAway why) = refused_text (refusal_of_cluster why) []
@@ -108,6 +109,7 @@ is_refused_call causes.Other = false
 
 abbrev pub is_cut : EventOutcome → Bool
 is_cut (outcomes.Done parts) = false
+is_cut (outcomes.Cleaned groups) = false
 is_cut (outcomes.Refused why) = false
 is_cut (outcomes.Stopped stop) = is_refused_call stop.cause
 is_cut (outcomes.TurnedAway why) = false

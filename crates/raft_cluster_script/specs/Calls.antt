@@ -47,7 +47,7 @@ abbrev pub asked_at : ℕ → ℕ → ℕ → Option GroupCall → Option Cluste
 asked_at node group now None = None
 asked_at node group now (Some call) = Some (events.Ask node group call now)
 
--- the event that a line names, at a moment and where the line's token is this one. Files aren't cleaned yet
+-- the event that a line names, at a moment and where the line's token is this one
 abbrev pub event_of : ℕ → ℕ → ScriptEvent → Option ClusterEvent
 event_of now token (said.Add node group) = Some (events.AddGroup node group)
 event_of now token (said.Init node group voters learners) =
@@ -63,7 +63,7 @@ event_of now token (said.Addr node group id address) = asked_at node group now (
 event_of now token (said.Voters node group ids) =
     Some (events.Ask node group (calls.ChangeMembership (AddVoterIds (rising_ids nat_cmp ids)) token) now)
 event_of now token (said.Deliver group number cut) = Some (events.Deliver group number (cuts_at cut) now)
-event_of now token (said.Clean node) = None
+event_of now token (said.Clean node) = Some (events.Clean node)
 event_of now token (said.Crash node choice) = Some (events.Crash node (choice_of choice))
 event_of now token (said.Reopen node workers) = Some (events.Reopen node workers)
 

@@ -160,6 +160,7 @@ pub fn outcome_text(alloc: Global, outcome: &EventOutcome) -> Result<String, All
 {
     match outcome {
         EventOutcome::Done(parts) => parts_text(alloc, parts.as_slice()),
+        EventOutcome::Cleaned(groups) => done_text(alloc, &[], &[], &[], groups.as_slice()),
         EventOutcome::Refused(why) => refused_text(alloc, refusal_of_node(*why), &[]),
         EventOutcome::Stopped(stop) => stop_text(alloc, stop),
         EventOutcome::TurnedAway(why) => refused_text(alloc, refusal_of_cluster(*why), &[]),

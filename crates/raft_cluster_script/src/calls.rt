@@ -209,8 +209,8 @@ fn crash_of(node: u64, choice: LineChoice) -> Option<ClusterEvent>
     Some(ClusterEvent::Crash { node, choice })
 }
 
-/// The event that a line names, at a moment and where the line's token is this one; none where such
-/// events aren't there yet (own).
+/// The event that a line names, at a moment and where the line's token is this one; none where an
+/// address is no text (own).
 pub fn event_of(
     alloc: Global,
     now: u64,
@@ -253,9 +253,8 @@ pub fn event_of(
             Ok(ask(now, node, group, more_voters(alloc, &ids, token)?))
         }
         ScriptEvent::Deliver { group, number, cut } => delivery_of(alloc, now, group, number, cut),
+        ScriptEvent::Clean { node } => Ok(Some(ClusterEvent::Clean { node })),
         ScriptEvent::Crash { node, choice } => Ok(crash_of(node, choice)),
         ScriptEvent::Reopen { node, workers } => Ok(Some(ClusterEvent::Reopen { node, workers })),
-        // Files aren't cleaned yet.
-        ScriptEvent::Clean { .. } => Ok(None),
     }
 }

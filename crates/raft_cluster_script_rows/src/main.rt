@@ -3,8 +3,9 @@
 //! for a thousand lines, with each number from 1 on in place of `%`. Where a name ends in `, counted`,
 //! each answer is printed once, by rising text, with how often it came. The first token that one tells
 //! is left out of it, and its words behind the eighth are counted. Where it ends in `, listed` the script
-//! runs on a cluster with lists, and each answer has the entries behind it that are new there. Before all
-//! that a list of events is run at once.
+//! runs on a cluster with lists, and each answer has the entries behind it that are new there. Where it
+//! ends in `, small files` the nodes have log files of 1 KB, and clean past 4 KB. Before all that a list of
+//! events is run at once.
 #![tactic(auto)]
 
 mod counted;
@@ -16,6 +17,7 @@ use counted::print_counted;
 use lists::print_listed;
 use many::push_lines;
 use raft_cluster_script::{ScriptEnd, run_script};
+use raft_log_files::Config;
 use raft_machines::AddingMachine;
 use raft_nodes_on_files::{FileNode, log_settings};
 use run_rows::run_rows;
@@ -29,8 +31,18 @@ struct Answered {
     end: ScriptEnd,
 }
 
-fn run(alloc: Global, script: &[u8]) -> Result<Answered, AllocError> {
-    let settings = log_settings(alloc, "raft", 64, 256)?;
+// The log's settings for a script of this name.
+fn settings_of(alloc: Global, name: &str) -> Result<Config, AllocError> {
+    let (file_size, threshold) = if name.ends_with(", small files") {
+        (1, 4)
+    } else {
+        (64, 256)
+    };
+    log_settings(alloc, "raft", file_size, threshold)
+}
+
+fn run(alloc: Global, name: &str, script: &[u8]) -> Result<Answered, AllocError> {
+    let settings = settings_of(alloc, name)?;
     let mut reader = script;
     let mut written = Vec::new(alloc);
     let end = run_script::<FileNode<AddingMachine>, _, _>(
@@ -51,7 +63,7 @@ fn print_run(rt: &HostRuntime, name: Option<&str>, script: &[u8]) -> io::Result<
     if name.ends_with(", listed") {
         return print_listed(rt, str::from_utf8(script).unwrap_or("no UTF-8"));
     }
-    let Ok(Answered { written, end }) = run(rt.alloc(), script) else {
+    let Ok(Answered { written, end }) = run(rt.alloc(), name, script) else {
         return println!(rt; "no memory");
     };
     let text = str::from_utf8(written.as_slice()).unwrap_or("no UTF-8");

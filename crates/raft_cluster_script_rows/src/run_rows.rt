@@ -41,6 +41,7 @@ fn run(cluster: &mut ListedCluster<FileNode<AddingMachine>>, events: Vec<Cluster
 fn word(recorded: &Recorded) -> &'static str {
     match &recorded.outcome {
         EventOutcome::Done(_) => " done",
+        EventOutcome::Cleaned(_) => " cleaned",
         EventOutcome::Refused(_) => " refused",
         EventOutcome::Stopped(_) => " stopped",
         EventOutcome::TurnedAway(_) => " turned-away",

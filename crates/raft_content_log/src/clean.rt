@@ -1,5 +1,5 @@
 //! What is asked of a log that can be cleaned.
-ghost use Rattle.std.specs.Prelude.{◌≡◌, ℕ, List, IfOk, OnOk};
+ghost use Rattle.std.specs.Prelude.{◌≡◌, ℕ, List, IfOk, None, OnOk};
 ghost use Rattle.std.specs.List.Sorted.{IsStrictlySortedBy};
 ghost use Rattle.std.specs.Ordering.{nat_cmp};
 ghost use Rattle.raft_content_log.specs.Leaving.{LeavesNoMore};
@@ -16,5 +16,6 @@ pub trait CleanLog: ContentLog {
         ensures rising { IfOk result (λ groups. IsStrictlySortedBy nat_cmp groups.items) }
         ensures sound { Self.ContentLog.is_sound self.old → OnOk result (Self.ContentLog.is_sound self.new) }
         ensures kept { Self.ContentLog.is_sound self.new → Self.ContentLog.is_sound self.old × (Self.ContentLog.answers self.new ≡ Self.ContentLog.answers self.old) }
-        ensures left { LeavesNoMore (Self.ContentLog.leaves self.old) (Self.ContentLog.leaves self.new) };
+        ensures left { LeavesNoMore (Self.ContentLog.leaves self.old) (Self.ContentLog.leaves self.new) }
+        ensures met { OnOk result (Self.ContentLog.meets self.old self.new None) };
 }

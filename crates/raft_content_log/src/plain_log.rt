@@ -152,6 +152,12 @@ impl ContentLog for PlainLog {
 
     ghost leaves = { λ p left. (p.is_lost ≡ false) × (left ≡ seen_in p.blocks.items p.tables) };
 
+    ghost meets = { λ old new met. Unit {0} };
+
+    ghost meets_none = { λ x. tt };
+
+    ghost meets_later = { λ x y z met before after. tt };
+
     fn write(&mut self, batch: &mut LogBatch) -> Result<(), PlainFault> {
         if self.is_lost {
             return Err(PlainFault::Lost);

@@ -1,7 +1,7 @@
 //! The calls of a node. Each stands in a function of its own: a caller's proof then carries the clauses
 //! of none.
 
-use crate::node::{Answered, Failure, Refused, ShelfNode};
+use crate::node::{Answered, CountersNode, Failure, Refused};
 use raft_node::Fed;
 use raft_rows::{bytes, number};
 use raft_state::{BasicNode, Bytes, ChangeMembers, Membership, NodeMap};
@@ -10,34 +10,34 @@ use std::alloc::{AllocError, Global};
 // The addresses of the nodes.
 const NODES: [(u64, &str); 3] = [(1, "a"), (2, "b"), (3, "c")];
 
-fn add(node: &mut ShelfNode, group: u64) -> Answered {
+fn add(node: &mut CountersNode, group: u64) -> Answered {
     node.add_group(group)
 }
 
-fn elect(node: &mut ShelfNode, group: u64, now: u64) -> Answered {
+fn elect(node: &mut CountersNode, group: u64, now: u64) -> Answered {
     node.elect(group, now)
 }
 
-fn heartbeat(node: &mut ShelfNode, group: u64, now: u64) -> Answered {
+fn heartbeat(node: &mut CountersNode, group: u64, now: u64) -> Answered {
     node.heartbeat(group, now)
 }
 
-fn lost(node: &mut ShelfNode, group: u64, peer: u64, now: u64) -> Answered {
+fn lost(node: &mut CountersNode, group: u64, peer: u64, now: u64) -> Answered {
     node.lost(group, peer, now)
 }
 
-fn snapshot(node: &mut ShelfNode, group: u64, now: u64) -> Answered {
+fn snapshot(node: &mut CountersNode, group: u64, now: u64) -> Answered {
     node.trigger_snapshot(group, now)
 }
 
-fn purge(node: &mut ShelfNode, group: u64, place: u64, now: u64) -> Answered {
+fn purge(node: &mut CountersNode, group: u64, place: u64, now: u64) -> Answered {
     node.trigger_purge_log(group, place, now)
 }
 
 // The first nodes, so many, are to be the group's voters.
 fn initialize(
     alloc: Global,
-    node: &mut ShelfNode,
+    node: &mut CountersNode,
     group: u64,
     count: u64,
     now: u64,
@@ -50,7 +50,7 @@ fn initialize(
 // A command of these words, one behind the other.
 fn propose(
     alloc: Global,
-    node: &mut ShelfNode,
+    node: &mut CountersNode,
     group: u64,
     words: &[&str],
     token: u64,
@@ -75,7 +75,7 @@ fn learner(alloc: Global, id: u64, address: &str) -> Result<NodeMap<u64, BasicNo
 // The node is to be a learner of the group.
 fn add_learner(
     alloc: Global,
-    node: &mut ShelfNode,
+    node: &mut CountersNode,
     group: u64,
     words: [&str; 2],
     token: u64,
@@ -87,7 +87,7 @@ fn add_learner(
 }
 
 // A call without bytes of its own.
-fn plain_call(node: &mut ShelfNode, words: &[&str]) -> Option<Answered> {
+fn plain_call(node: &mut CountersNode, words: &[&str]) -> Option<Answered> {
     match *words {
         ["add", group] => Some(add(node, number(group))),
         ["elect", group, now] => Some(elect(node, number(group), number(now))),
@@ -102,7 +102,7 @@ fn plain_call(node: &mut ShelfNode, words: &[&str]) -> Option<Answered> {
 }
 
 /// The call that the words name, if they name one.
-pub fn call(alloc: Global, node: &mut ShelfNode, words: &[&str]) -> Option<Answered> {
+pub fn call(alloc: Global, node: &mut CountersNode, words: &[&str]) -> Option<Answered> {
     match *words {
         ["initialize", group, count, now] => {
             initialize(alloc, node, number(group), number(count), number(now))
@@ -133,16 +133,16 @@ pub fn call(alloc: Global, node: &mut ShelfNode, words: &[&str]) -> Option<Answe
 }
 
 /// A piece of the peer's stream comes.
-pub fn feed(node: &mut ShelfNode, peer: u64, piece: &[u8], now: u64) -> Fed<Failure> {
+pub fn feed(node: &mut CountersNode, peer: u64, piece: &[u8], now: u64) -> Fed<Failure> {
     node.feed(peer, piece, now)
 }
 
 /// The peer's stream begins anew.
-pub fn reset(node: &mut ShelfNode, peer: u64) -> Result<(), Refused> {
+pub fn reset(node: &mut CountersNode, peer: u64) -> Result<(), Refused> {
     node.reset_peer(peer)
 }
 
 /// The node stops.
-pub fn fail(node: &mut ShelfNode) -> Refused {
+pub fn fail(node: &mut CountersNode) -> Refused {
     node.fail()
 }

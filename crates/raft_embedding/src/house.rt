@@ -2,10 +2,10 @@
 //! is short then.
 
 use crate::calls::feed;
+use crate::counters::Counters;
 use crate::node::{
-    Answered, Failure, Kept, NotUp, ShelfNode, close_node, crash_node, new_files, open_node,
+    Answered, CountersNode, Failure, Kept, NotUp, close_node, crash_node, new_files, open_node,
 };
-use crate::shelf::Shelf;
 use crate::told::{push_refusal, refusal_of, text_of};
 use raft_framed_groups::GroupFrame;
 use raft_log_engine::{LogFiles, NotClosed};
@@ -27,7 +27,7 @@ struct Sent {
 #[derive(Drop)]
 pub struct House {
     pub alloc: Global,
-    pub nodes: BTreeMap<u64, ShelfNode>,
+    pub nodes: BTreeMap<u64, CountersNode>,
     files: BTreeMap<u64, LogFiles>,
     sent: Vec<Sent>,
 }
@@ -107,12 +107,12 @@ impl House {
         }
     }
 
-    fn seat(&mut self, id: u64, node: ShelfNode) -> Result<(), AllocError> {
+    fn seat(&mut self, id: u64, node: CountersNode) -> Result<(), AllocError> {
         self.nodes.insert(id, node)?;
         Ok(())
     }
 
-    fn up(&mut self, id: u64, opened: Opened<Shelf, Kept>) -> Told {
+    fn up(&mut self, id: u64, opened: Opened<Counters, Kept>) -> Told {
         let Opened { node, outcomes } = opened;
         self.seat(id, node)?;
         let mut text = format!(in self.alloc; "open")?;

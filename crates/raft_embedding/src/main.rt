@@ -6,7 +6,7 @@
 //! - `1 open`, `1 close`, `1 crash`: the node is opened on its files, and closed, or its machine stops;
 //! - `1 add 7`: it gets a group;
 //! - `1 initialize 7 2 0`, `1 elect 7 0`, `1 heartbeat 7 5`, `1 lost 7 2 5`, `1 propose 7 a x 40 5`,
-//!   `1 learner 7 3 41 5`, `1 snapshot 7 5`, `1 purge 7 3 5`: its calls;
+//!   `1 learner 7 3 c 41 5`, `1 snapshot 7 5`, `1 purge 7 3 5`: its calls;
 //! - `1 takes 2 5`: what node 2 sent it comes as a stream, in pieces; `1 takes 2 5 for 3`: what node 2
 //!   sent node 3; `1 takes 2 5 bytes "\xff"`: these bytes; `1 loses 2`: what it sent doesn't come;
 //! - `1 resets 2`, `1 fails`: the peer's stream begins anew; the node stops;
@@ -16,10 +16,10 @@
 #![tactic(auto)]
 
 mod calls;
+mod counters;
 mod house;
 mod node;
 mod rows;
-mod shelf;
 mod told;
 
 use house::House;

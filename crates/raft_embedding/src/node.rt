@@ -1,6 +1,6 @@
-//! A node with shelves, on files of its own.
+//! A node with counters, on files of its own.
 
-use crate::shelf::Shelf;
+use crate::counters::Counters;
 use raft_log_engine::{EngineFault, LogFiles, MemoryLog, NotClosed, NotOpened as LogNotOpened};
 use raft_log_files::Config;
 use raft_node::{Cause, Fault, Node, NotOpened, Opened, Outcome};
@@ -8,10 +8,10 @@ use raft_store::{Store, StoreFault};
 use std::alloc::{AllocError, Global};
 
 /// Where a node keeps its groups.
-pub type Kept = Store<Shelf, MemoryLog>;
+pub type Kept = Store<Counters, MemoryLog>;
 
-/// A node of which each group has a shelf.
-pub type ShelfNode = Node<Shelf, Kept>;
+/// A node of which each group has counters.
+pub type CountersNode = Node<Counters, Kept>;
 
 /// Why a node's storage fails.
 pub type Failure = StoreFault<EngineFault>;
@@ -32,7 +32,7 @@ pub struct NotUp {
 /// No files yet.
 pub fn new_files(alloc: Global) -> Result<LogFiles, AllocError> {
     let mut settings = Config::default(alloc);
-    settings.dir = String::from_str(alloc, "shelves")?;
+    settings.dir = String::from_str(alloc, "counters")?;
     Ok(LogFiles::new(alloc, settings))
 }
 
@@ -51,12 +51,16 @@ fn open_log(alloc: Global, files: LogFiles) -> Result<MemoryLog, NotUp> {
 }
 
 // The node over the log.
-fn open_on(alloc: Global, id: u64, log: MemoryLog) -> Result<Opened<Shelf, Kept>, NotOpened<Kept>> {
+fn open_on(
+    alloc: Global,
+    id: u64,
+    log: MemoryLog,
+) -> Result<Opened<Counters, Kept>, NotOpened<Kept>> {
     Node::open(alloc, id, Store::new(alloc, log))
 }
 
 /// The node with all groups that its files have.
-pub fn open_node(alloc: Global, id: u64, files: LogFiles) -> Result<Opened<Shelf, Kept>, NotUp> {
+pub fn open_node(alloc: Global, id: u64, files: LogFiles) -> Result<Opened<Counters, Kept>, NotUp> {
     let log = open_log(alloc, files)?;
     match open_on(alloc, id, log) {
         Ok(opened) => Ok(opened),
@@ -68,11 +72,11 @@ pub fn open_node(alloc: Global, id: u64, files: LogFiles) -> Result<Opened<Shelf
 }
 
 /// The node is closed, and its files are left, also where that was refused.
-pub fn close_node(node: ShelfNode) -> Result<LogFiles, NotClosed<LogFiles>> {
+pub fn close_node(node: CountersNode) -> Result<LogFiles, NotClosed<LogFiles>> {
     node.into_storage().into_log().close()
 }
 
 /// The machine of a node stops, which leaves its files as they are.
-pub fn crash_node(node: ShelfNode) -> LogFiles {
+pub fn crash_node(node: CountersNode) -> LogFiles {
     node.into_storage().into_log().into_files()
 }

@@ -2,7 +2,7 @@
 
 use crate::calls::{call, fail, reset};
 use crate::house::{House, Told};
-use crate::told::{elections, groups, kept, refusal_of, seen, shelved};
+use crate::told::{count_of, elections, groups, kept, refusal_of, seen};
 use raft_rows::{Answer, Rows, bytes, number};
 use std::alloc::{AllocError, Global};
 
@@ -48,7 +48,7 @@ impl House {
             ["may", group] => Some(elections(self.alloc, node, number(group))),
             ["sees", group] => Some(seen(self.alloc, node, number(group))),
             ["knows", group, peer] => Some(kept(self.alloc, node, number(group), number(peer))),
-            ["gets", group, key] => Some(shelved(self.alloc, node, number(group), key)),
+            ["gets", group, key] => Some(count_of(self.alloc, node, number(group), key)),
             _ => None,
         }
     }

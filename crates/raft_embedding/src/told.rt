@@ -1,6 +1,6 @@
 //! What a node answers, in words.
 
-use crate::node::{Failure, Refused, ShelfNode};
+use crate::node::{CountersNode, Failure, Refused};
 use raft_framed_groups::GroupFrame;
 use raft_machines::{Told, Untold};
 use raft_node::{Cause, Fault, Outcome, UnknownTokens};
@@ -126,7 +126,7 @@ pub fn push_refusal(alloc: Global, text: &mut String, fault: &Refused) -> Result
 // ---- what a node tells
 
 /// What a node tells of a group.
-pub fn seen(alloc: Global, node: &ShelfNode, group: u64) -> Result<String, AllocError> {
+pub fn seen(alloc: Global, node: &CountersNode, group: u64) -> Result<String, AllocError> {
     let role = node.role(group);
     let leader = Shown(node.leader(group));
     let last = Shown(node.last_log_id(group));
@@ -136,20 +136,25 @@ pub fn seen(alloc: Global, node: &ShelfNode, group: u64) -> Result<String, Alloc
 }
 
 /// The groups that are there at a node.
-pub fn groups(alloc: Global, node: &ShelfNode) -> Result<String, AllocError> {
+pub fn groups(alloc: Global, node: &CountersNode) -> Result<String, AllocError> {
     let groups = node.groups()?;
     format!(in alloc; "groups {:?}", groups)
 }
 
 /// The moment from which on an election of the group may be asked for.
-pub fn elections(alloc: Global, node: &ShelfNode, group: u64) -> Result<String, AllocError> {
+pub fn elections(alloc: Global, node: &CountersNode, group: u64) -> Result<String, AllocError> {
     let moment = Shown(node.may_elect_from(group));
     format!(in alloc; "from {moment} on")
 }
 
 /// What a node tells of a group's members, snapshot and requests: a peer's address, the moment of the
 /// vote, the ends of snapshot and purge, and whether it waits for the peer.
-pub fn kept(alloc: Global, node: &ShelfNode, group: u64, peer: u64) -> Result<String, AllocError> {
+pub fn kept(
+    alloc: Global,
+    node: &CountersNode,
+    group: u64,
+    peer: u64,
+) -> Result<String, AllocError> {
     let known = node.membership(group);
     let address = known.and_then(|known| known.get_node(&peer));
     let address = Shown(address.map(|node| node.addr.as_str()));
@@ -162,20 +167,20 @@ pub fn kept(alloc: Global, node: &ShelfNode, group: u64, peer: u64) -> Result<St
     )
 }
 
-/// What stands in the key's place on the group's shelf.
-pub fn shelved(
+/// The count of the key by the group's counters, as a byte.
+pub fn count_of(
     alloc: Global,
-    node: &ShelfNode,
+    node: &CountersNode,
     group: u64,
     key: &str,
 ) -> Result<String, AllocError> {
-    let shelf = node.machine(group);
-    let byte = match (shelf, key.as_bytes()) {
-        (Some(shelf), [key]) => shelf.get(*key),
+    let counters = node.machine(group);
+    let count = match (counters, key.as_bytes()) {
+        (Some(counters), [key]) => counters.get(*key),
         _ => None,
     };
-    match byte {
-        Some(byte) => format!(in alloc; "\"{}\"", [byte].escape_ascii()),
+    match count {
+        Some(count) => format!(in alloc; "\"{}\"", [count].escape_ascii()),
         None => format!(in alloc; "-"),
     }
 }

@@ -7,6 +7,7 @@ ghost use Rattle.raft_group_step.specs.StoredGroup.{StoredGroup};
 ghost use Rattle.raft_engine.specs.Commands.{answer_of, number_of, request_to, sending_of, sent_by, snapshot_reply_to, snapshot_result, snapshot_to};
 ghost use Rattle.raft_engine.specs.Sending.{reply_of};
 ghost use Rattle.raft_messages.specs.Messages.{outcome_of, reply_fields_of, request_id_of};
+ghost use Rattle.std.specs.Result.{result_err};
 ghost use Rattle.raft_group_storage.specs.Keeping.{KeepsAll};
 ghost use Rattle.raft_executor.specs.Said.{SaysAll, SaysBody, listed};
 
@@ -131,6 +132,7 @@ fn snapshot<S: GroupStorage>(
     ensures ok { (s : StoredGroup) → S.is_well storage.old → S.shows storage.old group (s ∷ []) → sender.now.vote ≡ s.vote
         → IfOk result (λ sent. SaysAll S.stands (listed sent) (snapshot_to sender.now.own peer id s s.snapshot)) }
     ensures kept { KeepsAll (S.shows storage.old) (S.shows storage.new) }
+    ensures met { S.meets storage.old storage.new (result_err result) }
 {
     match storage.snapshot(alloc, group)? {
         Some(snapshot) => {
@@ -158,6 +160,7 @@ fn entries<S: GroupStorage>(
     ensures ok { (s : StoredGroup) → S.is_well storage.old → S.shows storage.old group (s ∷ []) → sender.now.vote ≡ s.vote
         → IfOk result (λ sent. SaysAll S.stands (listed sent) (request_to sender.now.own s sender.now.committed peer (Logs request.0 request.1))) }
     ensures kept { KeepsAll (S.shows storage.old) (S.shows storage.new) }
+    ensures met { S.meets storage.old storage.new (result_err result) }
 {
     let (id, range) = request;
     let request = AppendFields {
@@ -183,6 +186,7 @@ fn request<S: GroupStorage>(
     ensures ok { (s : StoredGroup) → S.is_well storage.old → S.shows storage.old group (s ∷ []) → sender.now.vote ≡ s.vote
         → IfOk result (λ sent. SaysAll S.stands (listed sent) (request_to sender.now.own s sender.now.committed peer inflight.now)) }
     ensures kept { KeepsAll (S.shows storage.old) (S.shows storage.new) }
+    ensures met { S.meets storage.old storage.new (result_err result) }
 {
     match inflight {
         Inflight::None => Ok(None),
@@ -207,6 +211,7 @@ pub fn sent<C: RaftTypeConfig<NodeId = u64, Node = BasicNode, D = Bytes>, S: Gro
     ensures ok { (s : StoredGroup) → S.is_well storage.old → S.shows storage.old group (s ∷ []) → sender.now.vote ≡ s.vote
         → IfOk result (λ sent. SaysAll S.stands (listed sent) (sending_of sender.now.own s sender.now.committed command.now)) }
     ensures kept { KeepsAll (S.shows storage.old) (S.shows storage.new) }
+    ensures met { S.meets storage.old storage.new (result_err result) }
 {
     let own = sender.own;
     match command {
@@ -260,6 +265,7 @@ fn push_sent<C: RaftTypeConfig<NodeId = u64, Node = BasicNode, D = Bytes>, S: Gr
         → SaysAll S.stands all.old.items before
         → OnOk result (SaysAll S.stands all.new.items (before ++ sending_of sender.now.own s sender.now.committed command.now)) }
     ensures kept { KeepsAll (S.shows storage.old) (S.shows storage.new) }
+    ensures met { S.meets storage.old storage.new (result_err result) }
 {
     let message = sent(alloc, sender, command, storage, group)?;
     push(all, message)?;
@@ -279,6 +285,7 @@ pub fn messages<C: RaftTypeConfig<NodeId = u64, Node = BasicNode, D = Bytes>, S:
     ensures ok { (s : StoredGroup) → S.is_well storage.old → S.shows storage.old group (s ∷ []) → sender.now.vote ≡ s.vote
         → IfOk result (λ sent. SaysAll S.stands sent.items (sent_by sender.now.own s sender.now.committed queue.now.queue)) }
     ensures kept { KeepsAll (S.shows storage.old) (S.shows storage.new) }
+    ensures met { S.meets storage.old storage.new (result_err result) }
 {
     let mut all = Vec::new(alloc);
     let mut left = queue.iter_commands();

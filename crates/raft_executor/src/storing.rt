@@ -3,6 +3,7 @@ ghost use Rattle.std.specs.Prelude.{◌≡◌, IfOk, OnOk, OnErr, if◌then◌el
 ghost use Rattle.std.specs.Option.{option_copied};
 ghost use Rattle.raft_group_step.specs.StoredGroup.{SetSnapshot, Snapshot};
 ghost use Rattle.raft_engine.specs.Commands.{put_all, storing_of, stored_by};
+ghost use Rattle.std.specs.Result.{result_err};
 ghost use Rattle.raft_group_storage.specs.Keeping.{KeepsOthers, MayStore, StandsOrNone, Stores};
 ghost use Rattle.raft_executor.specs.Stored.{FailsAmong, FailsAtOne, IsGiven, MayStoreAll, StoresAll, first_of, has_snapshot, queue_has_snapshot, room_after};
 
@@ -22,6 +23,7 @@ fn store_entries<S: GroupStorage>(
     ensures ok { S.is_well storage.old → OnOk result (StoresAll (S.shows storage.old) (S.shows storage.new) group (put_all entries.now)) }
     ensures err { S.is_well storage.old → OnErr result (MayStoreAll (S.shows storage.old) (S.shows storage.new) group (put_all entries.now)) }
     ensures others { KeepsOthers (S.shows storage.old) (S.shows storage.new) group }
+    ensures met { S.meets storage.old storage.new (result_err result) }
 {
     match entries.as_slice().first() {
         Some(entry) => storage.put_entries(group, entry.log_id.index, entries.as_slice()),
@@ -41,6 +43,7 @@ fn store_snapshot<S: GroupStorage>(
     ensures err { (x : Snapshot) → StandsOrNone S.stands (option_copied snapshot.entry) (Some x) → S.is_well storage.old
         → OnErr result (MayStore (S.shows storage.old) (S.shows storage.new) group (SetSnapshot x)) }
     ensures others { KeepsOthers (S.shows storage.old) (S.shows storage.new) group }
+    ensures met { S.meets storage.old storage.new (result_err result) }
 {
     match snapshot {
         Some(snapshot) => storage.set_snapshot(group, snapshot),
@@ -63,6 +66,7 @@ pub fn store<C: RaftTypeConfig<NodeId = u64, Node = BasicNode, D = Bytes>, S: Gr
     ensures err { (x : Snapshot) → IsGiven S.stands (has_snapshot command.now) (option_copied snapshot.entry) x → S.is_well storage.old
         → OnErr result (MayStoreAll (S.shows storage.old) (S.shows storage.new) group (storing_of x command.now)) }
     ensures others { KeepsOthers (S.shows storage.old) (S.shows storage.new) group }
+    ensures met { S.meets storage.old storage.new (result_err result) }
 {
     match command {
         Command::AppendInputEntries { entries, .. } => store_entries(entries, storage, group),
@@ -113,6 +117,7 @@ fn store_within<C: RaftTypeConfig<NodeId = u64, Node = BasicNode, D = Bytes>, S:
     ensures err { (x : Snapshot) → IsGiven S.stands (has_snapshot command.now) (option_copied snapshot.entry) x → S.is_well storage.old
         → OnErr result (FailsAtOne (S.shows storage.old) (S.shows storage.new) group (first_of room (storing_of x command.now))) }
     ensures others { KeepsOthers (S.shows storage.old) (S.shows storage.new) group }
+    ensures met { S.meets storage.old storage.new (result_err result) }
 {
     if !stores(command) {
         return Ok(room);
@@ -147,6 +152,7 @@ pub fn store_first<C: RaftTypeConfig<NodeId = u64, Node = BasicNode, D = Bytes>,
     ensures err { (x : Snapshot) → IsGiven S.stands (queue_has_snapshot queue.now.queue) (option_copied snapshot.entry) x → S.is_well storage.old
         → OnErr result (FailsAmong (S.shows storage.old) (S.shows storage.new) group (first_of limit (stored_by x queue.now.queue))) }
     ensures others { KeepsOthers (S.shows storage.old) (S.shows storage.new) group }
+    ensures met { S.meets storage.old storage.new (result_err result) }
 {
     let mut room = limit;
     let mut left = queue.iter_commands();

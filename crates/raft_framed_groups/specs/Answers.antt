@@ -16,7 +16,7 @@ use Rattle.raft_member.specs.declared.member.Broken.{Broken}
 use Rattle.raft_member.specs.declared.member.Ended.{Ended}
 use Rattle.raft_member.specs.declared.member.Ended.TheVariants as ended
 use Rattle.raft_member.specs.declared.member.Member.{Member}
-use Rattle.raft_groups.specs.Faults.{HasBegun, HasMet}
+use Rattle.raft_groups.specs.Faults.{HasBegun, HasMet, fault_of_groups}
 use Rattle.raft_groups.specs.declared.fault.GroupsFault.TheVariants as groups_fault
 use Rattle.raft_groups.specs.Standing.{HasMember, StandsAs}
 use Rattle.raft_wire.specs.Frames.{FitsFrame}
@@ -153,3 +153,17 @@ pub record IsAnswered {G F : Type 0} (own peer : ℕ) (old new : G) (taken : Fra
   pub feeds : Answers fed piece answer.used frame feeding
   pub spelled : IsSpelledSo fed.held piece answer.used frame
   pub answers : IsAnswerTo own peer old new taken frame answer.outcome
+
+-- ---- the storage's fault
+
+-- that is the cause, if one is
+abbrev pub fault_of_answer : {F : Type 0} → AnswerError F → Option F
+fault_of_answer (error.Stream why) = None
+fault_of_answer error.WrongParty = None
+fault_of_answer (error.Groups fault) = fault_of_groups fault
+fault_of_answer (error.Unsent why) = None
+
+-- none where there is an answer
+abbrev pub fault_met_by_answer : {T F : Type 0} → Result T (AnswerError F) → Option F
+fault_met_by_answer (Ok came) = None
+fault_met_by_answer (Err why) = fault_of_answer why

@@ -1,9 +1,9 @@
 //! A piece of a peer's stream comes to a node.
-ghost use Rattle.std.specs.Prelude.{◌≡◌};
+ghost use Rattle.std.specs.Prelude.{◌≡◌, None};
 ghost use Rattle.std.specs.Option.{option_copied};
 ghost use Rattle.std.specs.Ordering.{nat_cmp};
 ghost use Rattle.std.specs.BTreeMap.{get};
-ghost use Rattle.raft_framed_groups.specs.Answers.{IsAnswered, IsAsked, IsFrameTaken, IsFrom, IsOutcomeOf, IsTurnedAway, is_right_party};
+ghost use Rattle.raft_framed_groups.specs.Answers.{IsAnswered, IsAsked, IsFrameTaken, IsFrom, IsOutcomeOf, IsTurnedAway, fault_met_by_answer, is_right_party};
 
 use crate::frames::{GroupFrame, frames_of};
 use raft_conditions::{GroupCommand, Refusal};
@@ -55,7 +55,8 @@ fn outcome_of<F: Drop>(
     group: u64,
     ended: Ended<SnapshotBytes>,
 ) -> Result<Outcome, AnswerError<F>>
-    ensures { IsOutcomeOf group ended result }
+    ensures ended { IsOutcomeOf group ended result }
+    ensures met { fault_met_by_answer result ≡ None }
 {
     match ended {
         Ended::Done(messages) => match frames_of(alloc, group, messages) {
@@ -85,6 +86,7 @@ pub fn ask_group<S: GroupStorage<Snapshot = SnapshotBytes>>(
         group call.now (option_copied built.entry) now result }
     ensures same { IsTurnedAway result → groups.new ≡ groups.old }
     ensures id { groups.new.id ≡ groups.old.id }
+    ensures met { S.meets groups.old.storage groups.new.storage (fault_met_by_answer result) }
 {
     match groups.ask(group, call, built, now) {
         Ok(ended) => outcome_of(alloc, group, ended),
@@ -105,6 +107,7 @@ fn take_frame<S: GroupStorage<Snapshot = SnapshotBytes>>(
         frame.now now result }
     ensures same { IsTurnedAway result → groups.new ≡ groups.old }
     ensures id { groups.new.id ≡ groups.old.id }
+    ensures met { S.meets groups.old.storage groups.new.storage (fault_met_by_answer result) }
 {
     match groups.receive(frame.group, &frame.message, now) {
         Ok(ended) => outcome_of(alloc, frame.group, ended),
@@ -137,6 +140,7 @@ pub fn receive_frame<S: GroupStorage<Snapshot = SnapshotBytes>>(
         frame.now now result) result }
     ensures same { IsTurnedAway result → groups.new ≡ groups.old }
     ensures id { groups.new.id ≡ groups.old.id }
+    ensures met { S.meets groups.old.storage groups.new.storage (fault_met_by_answer result) }
 {
     if !is_right_party(groups.id, peer, frame) {
         return Err(AnswerError::WrongParty);
@@ -165,6 +169,7 @@ pub fn answer_piece<S: GroupStorage<Snapshot = SnapshotBytes>>(
         (record { own = groups.old.id; has_failed = groups.new.has_failed; members = get nat_cmp groups.new.members; is_well = S.is_well groups.new.storage; shows = S.shows groups.new.storage })
         frame now result.outcome) feeder.old.feeding piece.now result feeder.new.feeding }
     ensures id { groups.new.id ≡ groups.old.id }
+    ensures met { S.meets groups.old.storage groups.new.storage (fault_met_by_answer result.outcome) }
 {
     let Fed { used, frame } = feeder.feed(piece);
     let outcome = match frame {

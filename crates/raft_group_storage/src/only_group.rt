@@ -24,7 +24,15 @@ impl GroupStorage for StoredGroup {
 
     ghost stands = { λ x y. x ≡ y };
 
+    ghost meets = { λ old new met. Unit {0} };
+
     ghost shows_more = { λ x. only_shows_more x };
+
+    ghost meets_none = { λ x. tt };
+
+    ghost meets_later = { λ x y z met before after. tt };
+
+    ghost meets_want = { λ x y refused why gives before. tt };
 
     fn make_group(&mut self, group: u64) -> Result<(), AllocError> {
         if group == ONLY_GROUP {

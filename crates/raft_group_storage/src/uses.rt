@@ -1,6 +1,7 @@
 //! What a client can say of any storage.
 ghost use Rattle.std.specs.Prelude.{OnOk, OnErr, [], ◌∷◌};
 ghost use Rattle.raft_group_step.specs.StoredGroup.{CutFrom, SetVote, StoredGroup, after_storing};
+ghost use Rattle.std.specs.Result.{result_err};
 ghost use Rattle.raft_group_storage.specs.Keeping.{KeepsOthers};
 
 use crate::storage::GroupStorage;
@@ -19,6 +20,7 @@ pub fn vote_and_cut<S: GroupStorage>(
     ensures err { (s : StoredGroup) → S.is_well storage.old → S.shows storage.old group (s ∷ [])
         → OnErr result (S.shows storage.new group (s ∷ after_storing (SetVote vote) s ∷ after_storing (CutFrom place) (after_storing (SetVote vote) s) ∷ [])) }
     ensures others { KeepsOthers (S.shows storage.old) (S.shows storage.new) group }
+    ensures met { S.meets storage.old storage.new (result_err result) }
 {
     storage.set_vote(group, vote)?;
     storage.cut_from(group, place)

@@ -1,7 +1,8 @@
 -- How an event ended that a node's groups didn't take.
-use Rattle.std.specs.Prelude.{◌≡◌, Bool, true, Result, Ok, Err}
+use Rattle.std.specs.Prelude.{◌≡◌, Bool, true, Option, Some, None, Result, Ok, Err}
 use Rattle.raft_member.specs.declared.member.Broken.{Broken}
 use Rattle.raft_member.specs.declared.member.Broken.TheVariants as broken
+use Rattle.raft_member.specs.Faults.{fault_begun}
 use Rattle.raft_groups.specs.declared.fault.GroupsFault.{GroupsFault}
 use Rattle.raft_groups.specs.declared.fault.GroupsFault.TheVariants as groups_fault
 
@@ -40,3 +41,15 @@ GoesOn old (Err groups_fault.Failed) new = new ≡ old
 GoesOn old (Err groups_fault.UnknownGroup) new = new ≡ old
 GoesOn old (Err groups_fault.GroupExists) new = new ≡ old
 GoesOn old (Err (groups_fault.Stopped met)) new = new ≡ true
+
+-- the storage's fault that is the cause, if one is
+abbrev pub fault_of_groups : {F : Type 0} → GroupsFault F → Option F
+fault_of_groups groups_fault.Failed = None
+fault_of_groups groups_fault.UnknownGroup = None
+fault_of_groups groups_fault.GroupExists = None
+fault_of_groups (groups_fault.Stopped met) = fault_begun met
+
+-- none where the event was taken
+abbrev pub fault_met_by_groups : {T F : Type 0} → Result T (GroupsFault F) → Option F
+fault_met_by_groups (Ok x) = None
+fault_met_by_groups (Err why) = fault_of_groups why

@@ -9,10 +9,11 @@ ghost use Rattle.raft_group_step.specs.GroupEvent.{Call, Receive};
 ghost use Rattle.raft_group_step.specs.Message.{Message as Said};
 ghost use Rattle.raft_group_step.specs.declared.group_call.GroupCall.TheVariants.{TriggerSnapshot};
 ghost use Rattle.raft_executor.specs.Said.{Says};
+ghost use Rattle.std.specs.Result.{result_err};
 ghost use Rattle.raft_group_storage.specs.Keeping.{KeepsAll, KeepsOthers};
 ghost use Rattle.raft_laws.specs.GroupWorld.{NodeState, Absent, Up};
 ghost use Rattle.raft_member.specs.Member.{HasBrokenOff, HasEnded, HasStopped, IsBuilt, IsLawful};
-ghost use Rattle.raft_groups.specs.Faults.{GoesOn, HasBegun, HasMet, IsRefusedAs, IsTurnedAway};
+ghost use Rattle.raft_groups.specs.Faults.{GoesOn, HasBegun, HasMet, IsRefusedAs, IsTurnedAway, fault_met_by_groups};
 ghost use Rattle.raft_groups.specs.Standing.{HasMember, StandsAs};
 ghost use Rattle.raft_groups.specs.declared.fault.GroupsFault.TheVariants.{Failed, GroupExists, UnknownGroup};
 
@@ -92,6 +93,7 @@ impl<S: GroupStorage> Groups<S> {
         ensures kept { KeepsOthers (S.shows self.old.storage) (S.shows self.new.storage) group }
         ensures id { self.new.id ≡ self.old.id }
         ensures goes_on { GoesOn self.old.has_failed result self.new.has_failed }
+        ensures met { S.meets self.old.storage self.new.storage (fault_met_by_groups result) }
     {
         if self.has_failed {
             return Err(GroupsFault::Failed);
@@ -124,6 +126,7 @@ impl<S: GroupStorage> Groups<S> {
         ensures kept { KeepsOthers (S.shows self.old.storage) (S.shows self.new.storage) group }
         ensures id { self.new.id ≡ self.old.id }
         ensures flag { self.new.has_failed ≡ self.old.has_failed }
+        ensures met { S.meets self.old.storage self.new.storage (result_err result) }
     {
         if self.storage.load(self.alloc, group)?.present {
             return Ok(false);
@@ -143,6 +146,7 @@ impl<S: GroupStorage> Groups<S> {
         ensures kept { KeepsOthers (S.shows self.old.storage) (S.shows self.new.storage) group }
         ensures id { self.new.id ≡ self.old.id }
         ensures flag { self.new.has_failed ≡ self.old.has_failed }
+        ensures met { S.meets self.old.storage self.new.storage (result_err result) }
     {
         // The member's place comes first, so that nothing is stored where there is no memory for it.
         self.seat(group, Member::down(self.id))?;
@@ -193,6 +197,7 @@ impl<S: GroupStorage> Groups<S> {
         ensures same { IsTurnedAway result → self.new ≡ self.old }
         ensures id { self.new.id ≡ self.old.id }
         ensures goes_on { GoesOn self.old.has_failed result self.new.has_failed }
+        ensures met { S.meets self.old.storage self.new.storage (fault_met_by_groups result) }
     {
         if self.has_failed {
             return Err(GroupsFault::Failed);
@@ -235,6 +240,7 @@ impl<S: GroupStorage> Groups<S> {
         ensures same { IsTurnedAway result → self.new ≡ self.old }
         ensures id { self.new.id ≡ self.old.id }
         ensures goes_on { GoesOn self.old.has_failed result self.new.has_failed }
+        ensures met { S.meets self.old.storage self.new.storage (fault_met_by_groups result) }
     {
         if self.has_failed {
             return Err(GroupsFault::Failed);

@@ -5,11 +5,12 @@ ghost use Rattle.std.specs.BTreeMap.{get};
 ghost use Rattle.raft_group_step.specs.StoredGroup.{StoredGroup as Stored};
 ghost use Rattle.raft_group_step.specs.GroupState.{state_of};
 ghost use Rattle.raft_group_step.specs.GroupEvent.{Open};
+ghost use Rattle.std.specs.Result.{result_err};
 ghost use Rattle.raft_group_storage.specs.Keeping.{KeepsOthers};
 ghost use Rattle.raft_laws.specs.GroupWorld.{NodeState};
 ghost use Rattle.raft_member.specs.Member.{HasEnded};
 ghost use Rattle.raft_member.specs.Opening.{IsOpenable};
-ghost use Rattle.raft_groups.specs.Faults.{GoesOn, HasMet, IsRefusedAs};
+ghost use Rattle.raft_groups.specs.Faults.{GoesOn, HasMet, IsRefusedAs, fault_met_by_groups};
 ghost use Rattle.raft_groups.specs.Opening.{IsLeftByOpening};
 ghost use Rattle.raft_groups.specs.Standing.{HasMember, StandsAs};
 ghost use Rattle.raft_groups.specs.declared.fault.GroupsFault.TheVariants.{Failed, GroupExists, UnknownGroup};
@@ -34,6 +35,7 @@ impl<S: GroupStorage> Groups<S> {
         ensures kept { KeepsOthers (S.shows self.old.storage) (S.shows self.new.storage) group }
         ensures id { self.new.id ≡ self.old.id }
         ensures flag { self.new.has_failed ≡ self.old.has_failed }
+        ensures met { S.meets self.old.storage self.new.storage (result_err result) }
     {
         if !self.storage.load(self.alloc, group)?.present {
             return Ok(None);
@@ -69,6 +71,7 @@ impl<S: GroupStorage> Groups<S> {
         ensures kept { KeepsOthers (S.shows self.old.storage) (S.shows self.new.storage) group }
         ensures id { self.new.id ≡ self.old.id }
         ensures goes_on { GoesOn self.old.has_failed result self.new.has_failed }
+        ensures met { S.meets self.old.storage self.new.storage (fault_met_by_groups result) }
     {
         if self.has_failed {
             return Err(GroupsFault::Failed);

@@ -48,10 +48,10 @@ pub struct HostFiles {
 /// that was refused, for whatever reason, the log takes none: the directory is to be opened again.
 #[derive(Drop)]
 pub struct HostLog {
-    engine: Engine<HostFileSystem>,
+    pub(crate) engine: Engine<HostFileSystem>,
     settings: Config,
-    /// A write was refused.
-    has_failed: bool,
+    /// A write or a cleaning was refused.
+    pub(crate) has_failed: bool,
 }
 
 impl Model for HostLog {
@@ -196,12 +196,19 @@ impl ContentLog for HostLog {
     ghost use Rattle.raft_log_host.specs.Mirror.{host_disk};
     ghost use Rattle.raft_log_engine.specs.Left.{answers_on};
     ghost use Rattle.raft_log_engine.specs.Log.{leaves_of_log};
+    ghost use Rattle.raft_log_engine.specs.Met.{Meets, meets_later, meets_none};
 
     ghost is_sound = { λ l. l.has_failed ≡ false };
 
     ghost answers = { λ l. answers_on host_disk l.engine };
 
     ghost leaves = { λ l content. leaves_of_log host_disk l content };
+
+    ghost meets = { λ old new met. Meets (λ f. is_bounded_in f.memory) host_meter old new met };
+
+    ghost meets_none = { λ x. meets_none (λ f. is_bounded_in f.memory) host_meter x };
+
+    ghost meets_later = { λ x y z met first second. meets_later (λ f. is_bounded_in f.memory) host_meter x y z met first second };
 
     fn write(&mut self, batch: &mut LogBatch) -> Result<(), EngineFault> {
         if self.has_failed {

@@ -41,6 +41,7 @@ impl ClusterNode for ToldNode {
       asks = λ old group call now answered new. Unit {0};
       feeds = λ old peer piece now answered new. Unit {0};
       resets = λ old peer answered new. Unit {0};
+      cleans = λ old answered new. Unit {0};
       fails = λ old stop new. Unit {0};
       fuses = λ old first_refused new. Unit {0};
       crashes = λ old choice new. Unit {0};
@@ -97,6 +98,10 @@ impl ClusterNode for ToldNode {
     }
 
     fn reset_peer(&mut self, _peer: u64) -> Result<(), NodeError> {
+        Err(NodeError::Refused(NodeRefusal::Failed))
+    }
+
+    fn clean_files(&mut self) -> Result<Sequence<u64>, NodeError> {
         Err(NodeError::Refused(NodeRefusal::Failed))
     }
 

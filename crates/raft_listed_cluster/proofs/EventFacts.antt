@@ -52,6 +52,7 @@ says_of h (event.AddGroup n g) said is = let same : g ≡ h = cc in ap (λ b. sa
 says_of h (event.Ask n g call now) said is = let same : g ≡ h = cc in ap (λ b. said_if b (Done said)) (eq-eqb g h same)
 says_of h (event.Deliver g number cuts now) said is = let same : g ≡ h = cc in ap (λ b. said_if b (Done said)) (eq-eqb g h same)
 says_of h (event.ResetPeer n peer) said is = absurd (cc)
+says_of h (event.Clean n) said is = absurd (cc)
 says_of h (event.Fuse n first_refused) said is = absurd (cc)
 says_of h (event.Crash n choice) said is = absurd (cc)
 says_of h (event.Reopen n workers) said is = absurd (cc)

@@ -21,7 +21,7 @@ use Rattle.raft_node_laws.specs.Reporting.{IsSentAs, node_behind}
 use Rattle.raft_cluster_lists.specs.Hearing.{IsOpening}
 use Rattle.raft_cluster.specs.Cluster.{Happens, HappensBy, Reaches, refusal_in, with_node}
 use Rattle.raft_cluster.specs.Facts.{Sent, node_at, node_in, node_of}
-use Rattle.raft_cluster.specs.Happening.{ComesTo, Settles}
+use Rattle.raft_cluster.specs.Happening.{ComesTo, Did, Settles}
 use Rattle.raft_cluster.proofs.ListLemmas.{beside, found_new, its_id}
 
 module _ {N : Type 0} (acts : NodeActs N) (nodes : List N) (sent : Sent) (e : ClusterEvent) (o : EventOutcome) (nodes' : List N) (later : Sent) where
@@ -67,12 +67,13 @@ opening_taken acts sent (event.AddGroup node group) before o later behind comes 
 opening_taken acts sent (event.Ask node group call now) before o later behind comes why is opening = opening
 opening_taken acts sent (event.Deliver group number cuts now) before o later behind comes why is opening = opening
 opening_taken acts sent (event.ResetPeer node peer) before o later behind comes why is opening = opening
+opening_taken acts sent (event.Clean node) before o later behind comes why is opening = opening
 opening_taken acts sent (event.Fuse node first_refused) before o later behind comes why is opening = opening
 opening_taken acts sent (event.Crash node choice) before o later behind comes why is opening = opening
 opening_taken {N = N} acts sent (event.Reopen node workers) before o later behind comes why is opening =
     go comes.answers.0 (subst (λ a. Settles acts sent (event.Reopen node workers) comes.behind a o later behind) comes.answers.2 comes.settles)
   where
-    go : (r : Result (List NodeOutcome) Stop) → Settles acts sent (event.Reopen node workers) comes.behind (opening_of r) o later behind → ⊥
+    go : (r : Result (List NodeOutcome) Stop) → Settles acts sent (event.Reopen node workers) comes.behind (Did (opening_of r)) o later behind → ⊥
     go (Ok outcomes) (inl done) = let no : outcome.Done done.parts ≡ outcome.Refused why = sym done.outcome ∙ is in absurd (cc)
     go (Ok outcomes) (inr lacks) = let no : outcome.Stopped lacks.stop ≡ outcome.Refused why = sym lacks.outcome ∙ is in absurd (cc)
     go (Err stop) over_it = let no : outcome.Stopped stop ≡ outcome.Refused why = sym over_it.outcome ∙ is in absurd (cc)
@@ -94,6 +95,7 @@ module _ (spells : ℕ → Message → List ℕ → Type 0) (sent : Sent) (plain
           let P : Option Message → Type 0 = λ w. IfSome (option_map (λ (m : Message). m.addressee) w) (λ m. node ≡ m) in
           same_id frame.peer there (subst P b.stands at ∙ sym b.related.addressee)
   its_node (event.ResetPeer m peer) is at = same_id m is at
+  its_node (event.Clean m) is at = same_id m is at
   its_node (event.Fuse m first_refused) is at = same_id m is at
   its_node (event.Crash m choice) is at = same_id m is at
   its_node (event.Reopen m workers) is at = same_id m is at

@@ -1,5 +1,5 @@
 -- What an event's frames accept is read off their numbers, also where more was sent since.
-use Rattle.std.proofs.Common.{◌≡◌, ◌+◌, inl, inr, ℕ, zero, suc, eqb, Bool, true, false, cond, List, [], ◌∷◌, ◌++◌, Option, Some, None, Ok, Err, drop, length, slice_get, refl, sym, ap, ◌∙◌, subst, append_assoc, append-nil, arith, length-append}
+use Rattle.std.proofs.Common.{◌≡◌, ◌+◌, inl, inr, ℕ, zero, suc, eqb, Bool, true, false, cond, List, [], ◌∷◌, ◌++◌, Option, Some, None, Result, Ok, Err, drop, length, slice_get, refl, sym, ap, ◌∙◌, subst, append_assoc, append-nil, arith, length-append}
 use Rattle.std.specs.Option.{option_or}
 use Rattle.std.proofs.Math.Seq.{drop-append_seam, drop-length}
 use Rattle.std.proofs.lemmas.Bool.{eqb-true}
@@ -15,10 +15,9 @@ use Rattle.raft_cluster_events.specs.declared.outcome.NodeError.{NodeError}
 use Rattle.raft_cluster_events.specs.declared.outcome.NodeError.TheVariants as errors
 use Rattle.raft_cluster_events.specs.declared.outcome.Recorded.{Recorded}
 use Rattle.raft_cluster_events.specs.Node.{NodeActs}
-use Rattle.raft_node_laws.specs.Answered.{Answered}
 use Rattle.raft_cluster.specs.Cluster.{Happens, HappensBy, refusal_in}
 use Rattle.raft_cluster.specs.Facts.{Sent}
-use Rattle.raft_cluster.specs.Happening.{Settles, over}
+use Rattle.raft_cluster.specs.Happening.{NodeAnswer, Did, HasCleaned, Settles, cleaned, over}
 use Rattle.raft_cluster.specs.Sending.{part_of, parts_of, sent_after, sent_after_one}
 use Rattle.raft_listed_cluster.specs.Numbers.{accepts_at, accepts_by, accepts_in, accepts_of}
 
@@ -134,17 +133,23 @@ module _ {N : Type 0} (acts : NodeActs N) (h : ℕ) (frames : List SentFrame) wh
   over_none (errors.Refused why) = refl
   over_none (errors.Stopped stop) = refl
 
-  settled : (sent later : Sent) (e : ClusterEvent) (old new : N) (answered : Answered) (o : EventOutcome) → Has (later h) → Settles acts sent e old answered o later new
+  cleaned_none : (r : Result (List ℕ) NodeError) → accepts_by frames h (cleaned r) ≡ None
+  cleaned_none (Ok groups) = refl
+  cleaned_none (Err error) = over_none error
+
+  settled : (sent later : Sent) (e : ClusterEvent) (old new : N) (answered : NodeAnswer) (o : EventOutcome) → Has (later h) → Settles acts sent e old answered o later new
       → accepts_by frames h o ≡ first_accepted (drop (length (sent h)) (later h))
-  settled sent later e old new (Ok outcomes) o has (inl done) =
+  settled sent later e old new (Did (Ok outcomes)) o has (inl done) =
       let sender = acts.id old in
       let is : later h ≡ sent h ++ all_news sender outcomes h = done.sends.sends h ∙ after_is sent sender outcomes h in
       ap (accepts_by frames h) done.outcome ∙ ap (accepts_in frames h) done.sends.numbered
       ∙ all_parts sender h frames sent outcomes (λ k x there. has k x (ap (λ l. slice_get l k) is ∙ there))
       ∙ sym (ap (λ l. first_accepted (drop (length (sent h)) l)) is ∙ ap first_accepted (drop-append_seam (sent h) (all_news sender outcomes h)))
-  settled sent later e old new (Ok outcomes) o has (inr lacks) = ap (accepts_by frames h) lacks.outcome ∙ nothing_new (sent h) (later h) (lacks.sends h)
-  settled sent later e old new (Err error) o has is_over =
+  settled sent later e old new (Did (Ok outcomes)) o has (inr lacks) = ap (accepts_by frames h) lacks.outcome ∙ nothing_new (sent h) (later h) (lacks.sends h)
+  settled sent later e old new (Did (Err error)) o has is_over =
       ap (accepts_by frames h) is_over.outcome ∙ over_none error ∙ nothing_new (sent h) (later h) (is_over.sends h)
+  settled sent later e old new (HasCleaned r) o has is_over =
+      ap (accepts_by frames h) is_over.outcome ∙ cleaned_none r ∙ nothing_new (sent h) (later h) (is_over.sends h)
 
   -- where none of its frames was lost since
   pub accepts_still : (nodes new : List N) (sent later : Sent) (history : List Recorded) (e : ClusterEvent) (o : EventOutcome) → Has (later h) → Happens acts nodes sent history e o new later

@@ -95,6 +95,7 @@ brings_still s later (Some lead) (event.Ask n g call now) brought same brings =
     record { set_up = brings.set_up; written = subst W (sym (same lead refl)) brings.written }
 brings_still s later leading (event.Deliver g number cuts now) brought same brings = brings
 brings_still s later leading (event.ResetPeer n peer) brought same brings = brings
+brings_still s later leading (event.Clean n) brought same brings = brings
 brings_still s later leading (event.Fuse n first_refused) brought same brings = brings
 brings_still s later leading (event.Crash n choice) brought same brings = brings
 brings_still s later leading (event.Reopen n workers) brought same brings = brings

@@ -53,6 +53,7 @@ module _ {N : Type 0} (rules : MachineRules) (acts : NodeActs N) (states : NodeS
   crash_pending nodes groups id n (event.Ask m g call now) is = absurd (cc)
   crash_pending nodes groups id n (event.Deliver g number cuts now) is = absurd (cc)
   crash_pending nodes groups id n (event.ResetPeer m peer) is = absurd (cc)
+  crash_pending nodes groups id n (event.Clean m) is = absurd (cc)
   crash_pending nodes groups id n (event.Fuse m first_refused) is = absurd (cc)
   crash_pending nodes groups id n (event.Reopen m workers) is = absurd (cc)
   crash_pending nodes groups id n (event.Crash m choice) is =
@@ -73,6 +74,7 @@ module _ {N : Type 0} (rules : MachineRules) (acts : NodeActs N) (states : NodeS
   crash_heard nodes sent id groups (event.Ask m g call now) o is = absurd (cc)
   crash_heard nodes sent id groups (event.Deliver g number cuts now) o is = absurd (cc)
   crash_heard nodes sent id groups (event.ResetPeer m peer) o is = absurd (cc)
+  crash_heard nodes sent id groups (event.Clean m) o is = absurd (cc)
   crash_heard nodes sent id groups (event.Fuse m first_refused) o is = absurd (cc)
   crash_heard nodes sent id groups (event.Reopen m workers) o is = absurd (cc)
   crash_heard nodes sent id groups (event.Crash m choice) o is =

@@ -73,6 +73,7 @@ module _ {N : Type 0} (acts : NodeActs N) (nodes : List N) (sent : Sent) where
   spared_crash (event.Ask m g call now) spared = absurd spared.refuses
   spared_crash (event.Deliver g number cuts now) spared = absurd spared.refuses
   spared_crash (event.ResetPeer m peer) spared = absurd spared.refuses
+  spared_crash (event.Clean m) spared = absurd spared.refuses
   spared_crash (event.Fuse m first_refused) spared = absurd spared.refuses
   spared_crash (event.Reopen m workers) spared = absurd spared.refuses
   spared_crash (event.Crash m choice) spared = refl
@@ -95,6 +96,7 @@ crash_ready (event.AddGroup m g) n groups is = absurd (cc)
 crash_ready (event.Ask m g call now) n groups is = absurd (cc)
 crash_ready (event.Deliver g number cuts now) n groups is = absurd (cc)
 crash_ready (event.ResetPeer m peer) n groups is = absurd (cc)
+crash_ready (event.Clean m) n groups is = absurd (cc)
 crash_ready (event.Fuse m first_refused) n groups is = absurd (cc)
 crash_ready (event.Reopen m workers) n groups is = absurd (cc)
 crash_ready (event.Crash m choice) n groups is = record { own = λ h of_group. absurd (let no : None ≡ Some h = of_group in cc); each = λ opens. absurd opens }

@@ -53,6 +53,7 @@ module _ (h : ℕ) (history : List Recorded) (r : Recorded) where
     where
       is_so : (o : EventOutcome) → IsTaken o → is_taken o ≡ true
       is_so (outcome.Done parts) there = refl
+      is_so (outcome.Cleaned groups) there = refl
       is_so (outcome.Refused why) there = absurd there
       is_so (outcome.Stopped stop) there = refl
       is_so (outcome.TurnedAway why) there = absurd there
@@ -67,6 +68,7 @@ module _ (h : ℕ) (history : List Recorded) (r : Recorded) where
       go (event.Ask n g call now) is says = let same : g ≡ h = cc in of_call g call same (same_membership call ∙ says)
       go (event.Deliver g number cuts now) is says = absurd (cc)
       go (event.ResetPeer n peer) is says = absurd (cc)
+      go (event.Clean n) is says = absurd (cc)
       go (event.Fuse n first_refused) is says = absurd (cc)
       go (event.Crash n choice) is says = absurd (cc)
       go (event.Reopen n workers) is says = absurd (cc)

@@ -5,7 +5,7 @@ use Rattle.raft_list_facts.specs.declared.acceptance.Acceptance.{Acceptance}
 use Rattle.raft_sent_frames.specs.declared.frame.SentFrame.{SentFrame}
 use Rattle.raft_sent_frames.specs.declared.frame.SentNumber.{SentNumber}
 use Rattle.raft_cluster_events.specs.declared.outcome.EventOutcome.{EventOutcome}
-use Rattle.raft_cluster_events.specs.declared.outcome.EventOutcome.TheVariants.{Done, Refused, Stopped, TurnedAway}
+use Rattle.raft_cluster_events.specs.declared.outcome.EventOutcome.TheVariants.{Cleaned, Done, Refused, Stopped, TurnedAway}
 use Rattle.raft_cluster_events.specs.declared.outcome.GroupOutcome.{GroupOutcome}
 use Rattle.raft_cluster.specs.Facts.{Sent}
 
@@ -25,9 +25,10 @@ accepts_in frames h [] = None
 accepts_in frames h (part ∷ parts) =
     option_or (if part.group == h then accepts_at frames part.sent else None) (accepts_in frames h parts)
 
--- an event that wasn't done sent none
+-- a cleaning and an event that wasn't done sent none
 abbrev pub accepts_by : List SentFrame → ℕ → EventOutcome → Option Acceptance
 accepts_by frames h (Done parts) = accepts_in frames h parts
+accepts_by frames h (Cleaned groups) = None
 accepts_by frames h (Refused why) = None
 accepts_by frames h (Stopped stop) = None
 accepts_by frames h (TurnedAway why) = None

@@ -2,7 +2,7 @@
 use Rattle.std.specs.Prelude.{◌≡◌, ℕ, not, Bool, true, false, List, [], ◌∷◌, length}
 use Rattle.std.specs.List.{AllByRecursion, filter}
 use Rattle.raft_cluster_events.specs.declared.event.ClusterEvent.{ClusterEvent}
-use Rattle.raft_cluster_events.specs.declared.event.ClusterEvent.TheVariants.{AddGroup, Ask, Deliver, ResetPeer, Fuse, Crash, Reopen}
+use Rattle.raft_cluster_events.specs.declared.event.ClusterEvent.TheVariants.{AddGroup, Ask, Deliver, ResetPeer, Clean, Fuse, Crash, Reopen}
 use Rattle.raft_cluster_events.specs.declared.outcome.Recorded.{Recorded}
 use Rattle.raft_cluster_events.specs.Node.{NodeActs}
 use Rattle.raft_cluster_lists.specs.declared.brought.Brought.{Brought}
@@ -18,6 +18,7 @@ is_crash (AddGroup node group) = false
 is_crash (Ask node group call now) = false
 is_crash (Deliver group number cuts now) = false
 is_crash (ResetPeer node peer) = false
+is_crash (Clean node) = false
 is_crash (Fuse node first_refused) = false
 is_crash (Crash node choice) = true
 is_crash (Reopen node workers) = false

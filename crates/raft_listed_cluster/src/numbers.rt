@@ -43,6 +43,9 @@ pub fn accepts_by(frames: &[SentFrame], group: u64, outcome: &EventOutcome) -> O
 {
     match outcome {
         EventOutcome::Done(parts) => accepts_in(frames, group, parts.as_slice()),
-        EventOutcome::Refused(_) | EventOutcome::Stopped(_) | EventOutcome::TurnedAway(_) => None,
+        EventOutcome::Cleaned(_)
+        | EventOutcome::Refused(_)
+        | EventOutcome::Stopped(_)
+        | EventOutcome::TurnedAway(_) => None,
     }
 }

@@ -11,6 +11,7 @@ use Rattle.raft_log_memtables.specs.MemTables.{content_in}
 use Rattle.raft_log_covers.specs.Kept.{Traces}
 use Rattle.raft_log_traces.specs.GroupTraces.{traces_in}
 use Rattle.raft_log_marks.specs.Standing.{CanBeCleaned}
+use Rattle.raft_log_purge.specs.Anew.{StandTogether}
 use Rattle.raft_log_purge.proofs.StepLemmas.{no_steps, steps_of_nothing}
 use Rattle.raft_log_blocks.specs.Held.{IsTabled, ReadsEntries, seen_on}
 use Rattle.raft_log_blocks.specs.Placed.{bytes_on}
@@ -37,6 +38,7 @@ begins d p log content c = record {
   fronts = fronts_synced content c.rewrites c.appends (reads_as (first_of p.append) (traces_in log.traces) c.rewrites c.appends content c.cleanable);
   cleanable = subst (λ (l : Numbered). CanBeCleaned (first_of p.append) (traces_in log.traces) (records_of l) content (filed c.appends)) (sym (append-nil c.rewrites)) c.cleanable;
   steps = no_steps content (traces_in log.traces) [];
+  together = λ is. subst (λ (l : Numbered). StandTogether (records_of l)) (sym (append-nil c.rewrites)) (c.together is);
 }
 
 -- with an empty batch, and all on the disk
@@ -56,6 +58,7 @@ ends d p log items content none synced =
       cleanable =
           subst (λ (t : Traces). CanBeCleaned (first_of p.append) t (records_of s.rewrites) content (filed s.appends)) now
           (subst (λ (l : Numbered). CanBeCleaned (first_of p.append) s.before (records_of l) content (filed s.appends)) whole s.cleanable);
+      together = λ is. subst (λ (l : Numbered). StandTogether (records_of l)) whole (s.together is);
     }
 
 -- what reads see of such a log

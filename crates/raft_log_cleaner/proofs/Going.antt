@@ -1,5 +1,5 @@
 -- Steps of a cleaning, one after the other.
-use Rattle.std.proofs.Common.{◌≡◌, ℕ, List, [], ◌++◌, refl, sym, subst}
+use Rattle.std.proofs.Common.{◌≡◌, ℕ, List, [], ◌++◌, refl, sym, subst, ◌∙◌}
 use Rattle.std.specs.Prelude.{Result, Ok, Err, OnOk, OnErr}
 use Rattle.std.specs.Result.{IsErrAnd}
 use Rattle.raft_log_disk.specs.Disk.{Disk}
@@ -79,9 +79,9 @@ stopped_by Q d p log new items more result is = record {
 }
 
 -- a step that only adds to the batch
-pub added : {X E : Type 0} (d : Disk) (p : DualPipes) (log new : TracedTables) (items more : Batch) (x : X) → new.tables ≡ log.tables
+pub added : {X E : Type 0} (d : Disk) (p : DualPipes) (log new : TracedTables) (items more : Batch) (x : X) → new.tables ≡ log.tables → new.is_parted ≡ log.is_parted
     → ((content : Content (List ℕ)) → IsCleaning d p log items content → HasSteps content (traces_in log.traces) items (traces_in new.traces) more) → GoesOn d p log items d p new more (done {X = X} {E = E} x)
-added d p log new items more x same steps = record {
+added d p log new items more x same parted steps = record {
   ok = λ content s. record {
     rewrites = s.rewrites;
     fresh = s.fresh;
@@ -95,6 +95,7 @@ added d p log new items more x same steps = record {
     fronts = s.fronts;
     cleanable = s.cleanable;
     steps = has_steps_added content s.before (traces_in log.traces) (traces_in new.traces) [] items more s.steps (steps content s);
+    together = λ is. s.together (sym parted ∙ is);
   };
   err = λ content s. tt;
   append = still_as_before p.append d;

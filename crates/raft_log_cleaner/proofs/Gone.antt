@@ -15,7 +15,7 @@ use Rattle.raft_log_pipe.specs.declared.pipe.SinglePipe.{SinglePipe}
 use Rattle.raft_log_pipe.specs.declared.file.File.{File}
 use Rattle.raft_log_pipe.specs.Blocks.{files_of, of_file}
 use Rattle.raft_log_pipe.specs.Pipe.{Holds, IsPipe, Leaves, Numbered, first_of, id_of}
-use Rattle.raft_log_pipe.specs.Purging.{AreLastOf, from_file}
+use Rattle.raft_log_pipe.specs.Purging.{AreLastOf, HoldsRest, from_file}
 use Rattle.raft_log_pipe.proofs.BlockLemmas.{in_last, is_last, is_older, more_files}
 use Rattle.raft_log_pipe.proofs.PurgeLemmas.{in_last_files}
 use Rattle.raft_log_pipes.specs.Calls.{IsPurgeOf}
@@ -125,16 +125,26 @@ module _ (d e : Disk) (p q : DualPipes) (log : TracedTables) (content : Content 
   pub rest_may_be_cleaned : CanBeCleaned next (traces_in log.traces) (records_of can.rewrites) content (filed (from_file next can.appends))
   rest_may_be_cleaned = may_clean_rest (first_of p.append) next (traces_in log.traces) can.rewrites can.appends content can.cleanable none_kept
 
-  -- whatever a crash leaves reads as before
+  -- so may those of a number before them
+  earlier_may_be_cleaned : (first : ℕ) → first ≤ next → CanBeCleaned first (traces_in log.traces) (records_of can.rewrites) content (filed (from_file first can.appends))
+  earlier_may_be_cleaned first low =
+      may_clean_rest (first_of p.append) first (traces_in log.traces) can.rewrites can.appends content can.cleanable (λ group. kept_from_less first (Some next) (traces_in log.traces group) low (none_kept group))
+
+  -- whatever a crash leaves reads as before, also where more files stand
+  pub standing_leaves : (s : DualPipes) → first_of s.append ≤ next → HoldsRest p.append d s.append e → IsAsBefore p.rewrite d s.rewrite e → LeavesContent e s content
+  standing_leaves s low holds other =
+      let first : ℕ = first_of s.append in
+      record {
+        rewrites = can.rewrites;
+        fresh = [];
+        appends = from_file first can.appends;
+        rewrite = pipe_leaves s.rewrite e can.rewrites [] (other.holds can.rewrites [] can.rewrite);
+        append = pipe_leaves s.append e (from_file first can.appends) [] (holds can.appends [] can.append);
+        fronts = fronts_synced content can.rewrites (from_file first can.appends) (reads_as first (traces_in log.traces) can.rewrites (from_file first can.appends) content (earlier_may_be_cleaned first low));
+      }
+
   pub rest_leaves : IsAsBefore p.rewrite d q.rewrite e → LeavesContent e q content
-  rest_leaves other = record {
-    rewrites = can.rewrites;
-    fresh = [];
-    appends = from_file next can.appends;
-    rewrite = pipe_leaves q.rewrite e can.rewrites [] (other.holds can.rewrites [] can.rewrite);
-    append = pipe_leaves q.append e (from_file next can.appends) [] (call.holds can.appends [] can.append);
-    fronts = fronts_synced content can.rewrites (from_file next can.appends) (reads_as next (traces_in log.traces) can.rewrites (from_file next can.appends) content rest_may_be_cleaned);
-  }
+  rest_leaves other = standing_leaves q (omega arith) call.holds other
 
   -- no file from the barrier on went
   pub none_from : IfSome barrier (λ file. (next ≡ first_of p.append) ⊎ (next ≤ file))
@@ -147,7 +157,7 @@ module _ (d e : Disk) (p q : DualPipes) (log : TracedTables) (content : Content 
 
 -- ---- entries of files that are left
 
-behind_both : (next : ℕ) (a b : Numbered) → from_file next (a ++ b) ≡ from_file next a ++ from_file next b
+pub behind_both : (next : ℕ) (a b : Numbered) → from_file next (a ++ b) ≡ from_file next a ++ from_file next b
 behind_both next [] b = refl
 behind_both next (x ∷ a) b = by_test (nat_lt x.0 next) (behind_both next a b)
   where
@@ -179,7 +189,7 @@ module _ (p q : SinglePipe) (d : Disk) (appends : Numbered) (pipe : IsPipe p d) 
           (subst (λ (l : List File). IsIn f l) (sym rest.1) (in_last_files p.older.items p.active.seq rest.0 f pipe.numbers older (omega (arith, late, many, last))))
       by_place (inr is) = subst (λ (x : File). IsIn x (files_of q)) (active ∙ sym is) (is_last q.older.items q.active)
 
-  lies_left : (e : EntryIndex) (bytes : List ℕ) → (lies : LiesIn p appends e bytes) → first_of q ≤ lies.file.seq → LiesIn q (from_file (first_of q) appends) e bytes
+  pub lies_left : (e : EntryIndex) (bytes : List ℕ) → (lies : LiesIn p appends e bytes) → first_of q ≤ lies.file.seq → LiesIn q (from_file (first_of q) appends) e bytes
   lies_left e bytes lies late =
       let kept : nat_lt lies.file.seq (first_of q) ≡ false = le-ltb lies.file.seq (first_of q) late in
       record {
@@ -216,7 +226,7 @@ kept_here : (next : ℕ) (o : Option ℕ) → IsFrom next o → has_gone next o 
 kept_here next None from = refl
 kept_here next (Some file) from = le-ltb file next from
 
-same_cell : (one other : EntryIndex → List ℕ) (o : Option EntryIndex) → ((e : EntryIndex) → o ≡ Some e → one e ≡ other e) → option_map one o ≡ option_map other o
+pub same_cell : (one other : EntryIndex → List ℕ) (o : Option EntryIndex) → ((e : EntryIndex) → o ≡ Some e → one e ≡ other e) → option_map one o ≡ option_map other o
 same_cell one other None same = refl
 same_cell one other (Some e) same = ap (λ (b : List ℕ). Some b) (same e refl)
 
@@ -292,16 +302,20 @@ module _ (d e : Disk) (p q : DualPipes) (log : TracedTables) (content : Content 
         };
         placed = can.placed;
         cleanable = rest;
+        together = can.together;
       }
 
 -- ---- a new file was begun
+
+pub begun_first : (p q : SinglePipe) → (q.active.seq ≡ p.active.seq + 1) × (q.older.items ≡ p.older.items ++ p.active ∷ []) → first_of q ≡ first_of p
+begun_first p q next = omega (arith, next.0, ap length next.1, length-append p.older.items (p.active ∷ []))
 
 module _ (d e : Disk) (p q : DualPipes) (log : TracedTables) (content : Content (List ℕ)) (can : CanClean d p log content) (pipes : ArePipes q e) where
   -- of the append queue
   pub append_begun : IsAsBefore p.rewrite d q.rewrite e → (q.append.active.seq ≡ p.append.active.seq + 1) × (q.append.older.items ≡ p.append.older.items ++ p.append.active ∷ []) → Holds q.append e (can.appends ++ []) []
       → CanClean e q log content
   append_begun other next holds =
-      let first : first_of p.append ≡ first_of q.append = omega (arith, next.0, ap length next.1, length-append p.append.older.items (p.append.active ∷ [])) in
+      let first : first_of p.append ≡ first_of q.append = sym (begun_first p.append q.append next) in
       record {
         rewrites = can.rewrites;
         appends = can.appends;
@@ -314,6 +328,7 @@ module _ (d e : Disk) (p q : DualPipes) (log : TracedTables) (content : Content 
         };
         placed = can.placed;
         cleanable = subst (λ (n : ℕ). CanBeCleaned n (traces_in log.traces) (records_of can.rewrites) content (filed can.appends)) first can.cleanable;
+        together = can.together;
       }
 
 -- a file that wasn't begun

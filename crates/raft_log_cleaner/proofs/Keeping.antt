@@ -29,7 +29,7 @@ pipe_as_before p q d e before = record {
 pub pipe_on : (p q : SinglePipe) (d e : Disk) → (q.active ≡ p.active) × (q.older ≡ p.older) × (q.queue ≡ p.queue) → KeepsSettings p q → q.paths ≡ p.paths → e.names ≡ d.names → KeepsPipe p d q e
 pipe_on p q d e same set paths names = record { set = set; paths = paths; alone = alone_on p q d e same paths names }
 
-pipe_then : (p q r : SinglePipe) (d e f : Disk) → KeepsPipe p d q e → KeepsPipe q e r f → KeepsPipe p d r f
+pub pipe_then : (p q r : SinglePipe) (d e f : Disk) → KeepsPipe p d q e → KeepsPipe q e r f → KeepsPipe p d r f
 pipe_then p q r d e f one two = record {
   set = (two.set.0 ∙ one.set.0, two.set.1 ∙ one.set.1);
   paths = two.paths ∙ one.paths;
@@ -60,12 +60,13 @@ pipe_refused p q d e s u holds set paths nearly torn = record { set = set; paths
 -- ---- of both
 
 pub same_pipes : (d : Disk) (p : DualPipes) → KeepsPipes d p d p
-same_pipes d p = record { append = same_pipe p.append d; rewrite = same_pipe p.rewrite d }
+same_pipes d p = record { append = same_pipe p.append d; rewrite = same_pipe p.rewrite d; first = refl }
 
 pub pipes_then : (d e f : Disk) (p q r : DualPipes) → KeepsPipes d p e q → KeepsPipes e q f r → KeepsPipes d p f r
 pipes_then d e f p q r one two = record {
   append = pipe_then p.append q.append r.append d e f one.append two.append;
   rewrite = pipe_then p.rewrite q.rewrite r.rewrite d e f one.rewrite two.rewrite;
+  first = two.first ∙ one.first;
 }
 
 pub pipes_then_left : (d e f : Disk) (p q r : DualPipes) → KeepsPipes d p e q → LeavesPipes e q f r → LeavesPipes d p f r

@@ -1,9 +1,14 @@
-mod Written
-mod Moved
-mod Standing
-mod Keeping
-mod Going
-mod Ends
-mod Chunks
-mod Gone
-mod Calls
+pub mod Written
+pub mod Moved
+pub mod Standing
+pub mod Keeping
+pub mod Going
+pub mod Ends
+pub mod Chunks
+pub mod Gone
+pub mod Stood
+pub mod Calls
+mod Counting
+mod Judged
+mod Telling
+mod Oldest

@@ -20,7 +20,8 @@ use Rattle.raft_log_memtables.specs.Moved.{group_moved, moved}
 use Rattle.raft_log_traced.specs.Places.{items_moved, moved_by}
 use Rattle.raft_log_marks.specs.Opened.{file_at}
 use Rattle.raft_log_traced.specs.Traced.{file_on, lies_in}
-use Rattle.raft_log_cleaner.proofs.Written.{FileAfter, else_mapped, entry_in, run_mapped, written_at}
+use Rattle.raft_log_cleaner.specs.Written.{entry_in, written_at}
+use Rattle.raft_log_cleaner.proofs.Written.{FileAfter, else_mapped, run_mapped}
 
 -- ---- one item
 

@@ -33,7 +33,9 @@ use Rattle.raft_log_covers.specs.Queues.{batches_of}
 use Rattle.raft_log_traces.specs.GroupTraces.{traces_in}
 use Rattle.raft_log_marks.specs.Standing.{CanBeCleaned}
 use Rattle.raft_log_marks.proofs.StandingLemmas.{cleaned_queues_read_as_the_content}
-use Rattle.raft_log_purge.proofs.StepLemmas.{no_steps, steps_leave_cleanable}
+use Rattle.raft_log_purge.specs.Anew.{StandTogether}
+use Rattle.raft_log_purge.proofs.StepLemmas.{has_no_mark, no_steps, steps_leave_cleanable}
+use Rattle.raft_log_purge.proofs.ToldLemmas.{plain_comes}
 use Rattle.raft_log_blocks.specs.Held.{IsPlace, IsTabled, LiesIn, ReadsEntries, content_of_batches}
 use Rattle.raft_log_blocks.proofs.HeldLemmas.{more_lies, same_lies}
 use Rattle.raft_log_blocks.proofs.NewEntries.{IsPut, new_lies}
@@ -43,7 +45,8 @@ use Rattle.raft_log_cleaner.specs.Cleaning.{FrontsRead, IsCleaning, IsSynced, Le
 use Rattle.raft_log_marks.specs.Opened.{TellPlaces}
 use Rattle.raft_log_traced.specs.Traced.{lies_in}
 use Rattle.raft_log_cleaner.proofs.Moved.{content_stays, places_told, still_there}
-use Rattle.raft_log_cleaner.proofs.Written.{Rewrites, some_held, steps_rewrite, written_at, written_mapped}
+use Rattle.raft_log_cleaner.specs.Written.{written_at}
+use Rattle.raft_log_cleaner.proofs.Written.{Rewrites, some_held, steps_rewrite, written_mapped}
 
 -- ---- both queues as they read
 
@@ -69,7 +72,7 @@ take_none : (n : ℕ) → take n no_batches ≡ no_batches
 take_none zero = refl
 take_none (suc n) = refl
 
-take_all : {A : Type 0} (l : List A) → take (length l) l ≡ l
+pub take_all : {A : Type 0} (l : List A) → take (length l) l ≡ l
 take_all [] = refl
 take_all {A} (x ∷ l) = ap (λ (m : List A). x ∷ m) (take_all l)
 
@@ -157,6 +160,7 @@ pub record IsWritten (d : Disk) (p : DualPipes) (log : TracedTables) (items : Ba
   pub lens : with_lengths (items_of drained.items.items) ≡ lengths items
   pub moved : content_in new.tables ≡ items_moved place drained.items.items (content_in log.tables)
   pub traces : new.traces ≡ log.traces
+  pub parted : new.is_parted ≡ log.is_parted
 
 -- the entries of the rewrite queue's batches lie where they lay, and the append queue is as it was
 pub old_reads : (p q : DualPipes) (rewrites appends : Numbered) (seq : ℕ) (items : Batch) → KeepsFiles p.rewrite q.rewrite → q.append ≡ p.append → (read : EntryIndex → List ℕ)
@@ -166,13 +170,13 @@ old_reads p q rewrites appends seq items keeps same read reads e bytes (inl lies
 old_reads p q rewrites appends seq items keeps same read reads e bytes (inr lies) =
     reads e bytes (inr (subst (λ (x : SinglePipe). LiesIn x appends e bytes) (sym same) lies))
 
-new_reads : (q : DualPipes) (rewrites appends : Numbered) (seq : ℕ) (items : Batch) (h place : FileBlockHandle) (block : Option EntriesBlock) → IsPut q.rewrite rewrites items h block place → seq ≡ h.id.seq
+pub new_reads : (q : DualPipes) (rewrites appends : Numbered) (seq : ℕ) (items : Batch) (h place : FileBlockHandle) (block : Option EntriesBlock) → IsPut q.rewrite rewrites items h block place → seq ≡ h.id.seq
     → (read : EntryIndex → List ℕ) → ReadsEntries q (rewrites ++ (seq, items) ∷ []) appends read → list_any holds_entries items ≡ true → (e : EntryIndex) → read (placed_in place e) ≡ entry_bytes (block_of items) e
 new_reads q rewrites appends seq items h place (Some b) put number read reads some e =
     reads (placed_in place e) (entry_bytes (block_of items) e) (inl (new_lies q.rewrite rewrites seq items h place b put.at number (put.is b refl) put.stands e))
 new_reads q rewrites appends seq items h place None put number read reads some e = absurd (false≢true (sym (put.stands None) ∙ some))
 
-same_by : {A : Type 0} (f : EntryIndex → A) (g : EntryIndex → A) (o : Option EntryIndex) (c : Option A) (old x : EntryIndex) → option_map f o ≡ c → o ≡ Some old → c ≡ Some (g x) → g x ≡ f old
+pub same_by : {A : Type 0} (f : EntryIndex → A) (g : EntryIndex → A) (o : Option EntryIndex) (c : Option A) (old x : EntryIndex) → option_map f o ≡ c → o ≡ Some old → c ≡ Some (g x) → g x ≡ f old
 same_by {A} f g o c old x seen is has = let both : Some (f old) ≡ Some (g x) = ap (option_map f) (sym is) ∙ seen ∙ has in cc
 
 module _ (d e : Disk) (p q : DualPipes) (log new : TracedTables) (items : Batch) (content : Content (List ℕ)) (s : IsCleaning d p log items content) where
@@ -272,6 +276,11 @@ module _ (d e : Disk) (p q : DualPipes) (log new : TracedTables) (items : Batch)
         subst (λ (x : SinglePipe). CanBeCleaned (first_of x) (traces_in new.traces) (records_of more) content (filed s.appends)) (sym w.other.same)
         (subst (λ t. CanBeCleaned (first_of p.append) (traces_in t) (records_of more) content (filed s.appends)) (sym w.traces) (can_more w.handle.id.seq))
 
+    new_together : new.is_parted ≡ false → StandTogether (records_of more)
+    new_together is =
+        subst (λ (l : List Batch). StandTogether l) (records_more all w.handle.id.seq items)
+        (plain_comes (records_of all) items (s.together (sym w.parted ∙ is)) (has_no_mark content s.before (traces_in log.traces) items s.steps))
+
     pub written : IsCleaning e q new [] content
     written = by_file (w.appended s.rewrites s.fresh s.rewrite)
       where
@@ -291,6 +300,7 @@ module _ (d e : Disk) (p q : DualPipes) (log new : TracedTables) (items : Batch)
               fronts = fronts_more content s.rewrites s.fresh s.appends (w.handle.id.seq, items) s.fronts (ap (λ (l : Numbered). content_of_batches (l ++ s.appends)) (sym joined) ∙ reads_more w.handle.id.seq);
               cleanable = subst (λ (l : Numbered). CanBeCleaned (first_of q.append) (traces_in new.traces) (records_of l) content (filed s.appends)) joined new_cleanable;
               steps = no_steps content (traces_in new.traces) [];
+              together = λ is. subst (λ (l : Numbered). StandTogether (records_of l)) joined (new_together is);
             }
         by_file (inr next) = record {
           rewrites = all;
@@ -305,6 +315,7 @@ module _ (d e : Disk) (p q : DualPipes) (log new : TracedTables) (items : Batch)
           fronts = fronts_more content all [] s.appends (w.handle.id.seq, items) (fronts_synced content all s.appends (fronts_all content s.rewrites s.fresh s.appends s.fronts)) (reads_more w.handle.id.seq);
           cleanable = new_cleanable;
           steps = no_steps content (traces_in new.traces) [];
+          together = new_together;
         }
 
 -- ---- a sync of the rewrite queue
@@ -344,6 +355,7 @@ module _ (d e : Disk) (p q : DualPipes) (log : TracedTables) (items : Batch) (co
           subst (λ (x : SinglePipe). CanBeCleaned (first_of x) s.before (records_of ((s.rewrites ++ s.fresh) ++ [])) content (filed s.appends)) (sym other.same)
           (subst (λ (l : Numbered). CanBeCleaned (first_of p.append) s.before (records_of l) content (filed s.appends)) (sym (append-nil (s.rewrites ++ s.fresh))) s.cleanable);
       steps = s.steps;
+      together = λ is. subst (λ (l : Numbered). StandTogether (records_of l)) (sym (append-nil (s.rewrites ++ s.fresh))) (s.together is);
     },
     refl,
   )

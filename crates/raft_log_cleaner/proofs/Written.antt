@@ -19,20 +19,7 @@ use Rattle.raft_log_covers.proofs.FileLemmas.{not_there}
 use Rattle.raft_log_marks.specs.GroupMarks.{marks_of, trace_after_marks}
 use Rattle.raft_log_marks.specs.MarkLaws.{IsThere}
 use Rattle.raft_log_purge.specs.Steps.{AreSteps, IsFrontRewritten, IsKeyRewritten, IsMarking, IsStep}
-
--- the entry that a change has with an index
-abbrev pub entry_in : {E : Type 0} → Change E → ℕ → Option E
-entry_in (entries es) i = entry_at es i
-entry_in clean i = None
-entry_in (compact limit) i = None
-entry_in (put name value) i = None
-entry_in (delete name) i = None
-entry_in (mark id status) i = None
-
--- the entry of a group with an index that the last of these items has
-abbrev pub written_at : {E : Type 0} → List (Item E) → ℕ → ℕ → Option E
-written_at [] group i = None
-written_at (item ∷ items) group i = or_else (written_at items group i) (cond (nat_eq item.group group) (entry_in item.change i) None)
+use Rattle.raft_log_cleaner.specs.Written.{entry_in, written_at}
 
 -- ---- entries seen in another way
 

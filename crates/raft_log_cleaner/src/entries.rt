@@ -25,7 +25,7 @@ use raft_log_traces::{GroupTrace, GroupTraces};
 use std::alloc::{AllocError, Global};
 
 /// The number, or the greatest one that an index may have.
-fn as_index(index: u128) -> u64
+pub(crate) fn as_index(index: u128) -> u64
     ensures least { result ≤ index }
     ensures same { result < 2 ^ 64 - 1 → result ≡ index }
 {
@@ -52,7 +52,7 @@ fn copies_of<F: FileSystem>(
 
 /// Copies of a group's entries, from an index on up to before another one, but no more than a batch
 /// has, and one at least. Where one of the indexes has no entry they are refused.
-fn copies<F: FileSystem>(
+pub fn copies<F: FileSystem>(
     alloc: Global,
     files: &F,
     pipes: &DualPipes,

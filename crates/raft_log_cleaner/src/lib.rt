@@ -3,9 +3,13 @@
 #![tactic(auto)]
 
 mod entries;
+mod facts;
 mod fault;
 mod manager;
+mod plan;
 mod writer;
 
+pub use entries::copies;
 pub use fault::of_record;
 pub use manager::{PurgeManager, RewriteStep};
+pub use writer::{MOST_BATCH_BYTES, MOST_UNSYNCED_BYTES, place_of};

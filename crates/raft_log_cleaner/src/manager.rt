@@ -1,16 +1,27 @@
 //! When the log is cleaned, and how.
 
-ghost use Rattle.std.specs.Prelude.{◌≡◌, ◌+◌, IfOk, OnErr, OnOk};
-ghost use Rattle.raft_log_cleaner.specs.Cleaning.{CanCleanSome, Cleans, Finishes, GoesOn, IsCleaningSome, KeepsFromBarrier};
-ghost use Rattle.raft_log_cleaner.specs.Pipes.{KeepsPipe, KeepsPipes, LeavesPipes};
+ghost use Rattle.std.specs.List.Sorted.{IsStrictlySortedBy};
+ghost use Rattle.std.specs.Ordering.{nat_cmp};
+ghost use Rattle.std.specs.Prelude.{◌≡◌, ◌+◌, ◌<◌, ◌^◌, ◌↔◌, ℕ, [], true, IfNone, IfOk, IfSome, IsOkAnd, IsTrue, OnErr, OnOk};
+ghost use Rattle.raft_log_cleaner.specs.Cleaning.{CanCleanSome, Cleans, Finishes, GoesOn, IsCleaningSome, IsLeftStanding, KeepsFromBarrier};
+ghost use Rattle.raft_log_cleaner.specs.Facts.{TellEntries};
+ghost use Rattle.raft_log_cleaner.specs.Pipes.{KeepBoth, KeepsPipe, KeepsPipes, LeavesPipes};
+ghost use Rattle.raft_log_cleaner.specs.Told.{AreTold, is_among, marks_of_pipe, queue_of};
 ghost use Rattle.raft_log_disk.specs.Cause.{RefusesNoMore};
+ghost use Rattle.raft_log_memtables.specs.MemTables.{content_in};
 ghost use Rattle.raft_log_pipe.specs.Pipe.{first_of};
+ghost use Rattle.raft_log_pipes.specs.Kept.{KeepSettings};
+ghost use Rattle.raft_log_pipes.specs.Pipes.{IsAsBefore};
+ghost use Rattle.raft_log_purge.specs.Due.{IsLarge};
+ghost use Rattle.raft_log_purge.specs.Reports.{count_in};
+ghost use Rattle.raft_log_traces.specs.GroupTraces.{traces_in};
 
 use crate::entries::{mark, rewrite_group};
+use crate::plan::{Plan, plan_of};
 use crate::writer::Writer;
 use raft_log_files::{Error, FileSystem};
 use raft_log_pipes::DualPipes;
-use raft_log_purge::let_go;
+use raft_log_purge::{Reports, Watermarks, files_of, is_large, let_go, watermarks_of};
 use raft_log_records::{FileSeq, LogQueue};
 use raft_log_traced::TracedTables;
 use std::alloc::{AllocError, Global};
@@ -70,23 +81,53 @@ fn finish<F: FileSystem>(
     writer.sync(files, pipes, log)
 }
 
-/// Rewrites groups before a file of the append queue, and syncs the rewrite queue.
+/// Marks groups before a file of the append queue, and then rewrites some of them.
+fn write_each<F: FileSystem>(
+    alloc: Global,
+    files: &mut F,
+    pipes: &mut DualPipes,
+    log: &mut TracedTables,
+    writer: &mut Writer,
+    marked: &[u64],
+    rewritten: &[u64],
+    before: FileSeq,
+) -> Result<(), Error>
+    requires { IsCleaningSome (F.disk files.old) pipes.old log.old writer.old.batch.items }
+    ensures goes_on { GoesOn (F.disk files.old) pipes.old log.old writer.old.batch.items (F.disk files.new) pipes.new log.new writer.new.batch.items result }
+    ensures later { RefusesNoMore (F.is_bounded files.old) (F.is_bounded files.new) (F.meter files.old) (F.meter files.new) }
+{
+    mark_each(alloc, files, pipes, log, writer, marked, before)?;
+    rewrite_each(alloc, files, pipes, log, writer, rewritten, before)
+}
+
+/// Marks groups before a file of the append queue, rewrites some of them, and syncs the rewrite queue.
 fn rewrite_groups<F: FileSystem>(
     alloc: Global,
     files: &mut F,
     pipes: &mut DualPipes,
     log: &mut TracedTables,
-    groups: &[u64],
+    marked: &[u64],
+    rewritten: &[u64],
     before: FileSeq,
 ) -> Result<(), Error>
     requires { CanCleanSome (F.disk files.old) pipes.old log.old }
     ensures cleans { Cleans (F.disk files.old) pipes.old log.old (F.disk files.new) pipes.new log.new result }
+    ensures append { IsAsBefore pipes.old.append (F.disk files.old) pipes.new.append (F.disk files.new) }
     ensures kept { OnOk result (KeepsPipes (F.disk files.old) pipes.old (F.disk files.new) pipes.new) }
     ensures left { OnErr result (LeavesPipes (F.disk files.old) pipes.old (F.disk files.new) pipes.new) }
     ensures later { RefusesNoMore (F.is_bounded files.old) (F.is_bounded files.new) (F.meter files.old) (F.meter files.new) }
 {
     let mut writer = Writer::new(alloc);
-    rewrite_each(alloc, files, pipes, log, &mut writer, groups, before)?;
+    write_each(
+        alloc,
+        files,
+        pipes,
+        log,
+        &mut writer,
+        marked,
+        rewritten,
+        before,
+    )?;
     finish(files, pipes, log, &mut writer)
 }
 
@@ -163,8 +204,38 @@ fn clean_groups<F: FileSystem>(
 {
     match step {
         RewriteStep::Marks => mark_groups(alloc, files, pipes, log, groups, before),
-        RewriteStep::Rewrites => rewrite_groups(alloc, files, pipes, log, groups, before),
+        RewriteStep::Rewrites => rewrite_groups(alloc, files, pipes, log, groups, groups, before),
     }
+}
+
+/// The marks of the append queue, if it is large.
+fn due_marks(pipes: &DualPipes, threshold: u64) -> Option<Watermarks>
+    ensures none { IfNone result (IsLarge (queue_of pipes.now.append) threshold → ⊥) }
+    ensures some { IfSome result (λ marks. IsLarge (queue_of pipes.now.append) threshold × (marks ≡ marks_of_pipe pipes.now.append)) }
+    ensures below { IfSome result (λ marks. marks.rewrite + 1 < 2 ^ 64) }
+{
+    let queue = files_of(pipes, LogQueue::Append);
+    if !is_large(queue, threshold) {
+        return None;
+    }
+    Some(watermarks_of(queue))
+}
+
+/// What is done with groups where the append queue is large: which are told, of which is rewritten
+/// what lies up to the mark, this file included, and which get their marks.
+fn plan_for(
+    alloc: Global,
+    log: &TracedTables,
+    reports: &Reports,
+    marks: Watermarks,
+) -> Result<Plan, AllocError>
+    requires entries { TellEntries (traces_in log.now.traces) (content_in log.now.tables) }
+    requires mark { marks.rewrite + 1 < 2 ^ 64 }
+    ensures { IfOk result (λ plan. AreTold log.now marks reports.now plan.reports plan.told.items) }
+{
+    let mut plan = plan_of(alloc, log, reports, marks)?;
+    plan.marked = groups_of(log, marks.rewrite + 1)?;
+    Ok(plan)
 }
 
 /// How far a cleaning that is asked for goes (raft-engine's `RewriteStep`).
@@ -182,14 +253,25 @@ pub enum RewriteStep {
 #[derive(Drop)]
 pub struct PurgeManager {
     alloc: Global,
+    /// The append queue is cleaned once its files may hold more bytes.
+    purge_threshold: u64,
+    /// How many times in a row groups were told to compact and left alone.
+    reports: Reports,
 }
 
 impl PurgeManager {
-    /// A manager that has cleaned nothing yet.
-    pub fn new(alloc: Global) -> PurgeManager
-        ensures { result.alloc ≡ alloc }
+    /// A manager that has cleaned nothing yet. The threshold is in bytes (raft-engine's
+    /// `purge-threshold`).
+    pub fn new(alloc: Global, purge_threshold: u64) -> PurgeManager
+        ensures alloc { result.alloc ≡ alloc }
+        ensures threshold { result.purge_threshold ≡ purge_threshold }
+        ensures reports { (group : ℕ) → count_in result.reports group ≡ 0 }
     {
-        PurgeManager { alloc }
+        PurgeManager {
+            alloc,
+            purge_threshold,
+            reports: Reports::new(alloc),
+        }
     }
 
     /// Writes anew what all groups have up to a file of the append queue, this one included, whatever
@@ -232,8 +314,86 @@ impl PurgeManager {
         ensures barrier { KeepsFromBarrier barrier pipes.old pipes.new }
         ensures count { IfOk result (λ n. first_of pipes.old.append + n ≡ first_of pipes.new.append) }
         ensures kept { KeepsPipe pipes.old.rewrite (F.disk files.old) pipes.new.rewrite (F.disk files.new) }
+        ensures set { KeepSettings pipes.old pipes.new }
+        ensures both { OnOk result (KeepBoth (F.disk files.old) pipes.old (F.disk files.new) pipes.new) }
+        ensures stands { OnErr result (IsLeftStanding (F.disk files.old) pipes.old log.now (F.disk files.new) pipes.new) }
         ensures later { RefusesNoMore (F.is_bounded files.old) (F.is_bounded files.new) (F.meter files.old) (F.meter files.new) }
     {
         let_go(files, pipes, &log.traces, barrier)
+    }
+
+    /// Whether the append queue is to be cleaned (raft-engine's `needs_rewrite_log_files`): it has more
+    /// files than the one that is written, and may have more bytes than the threshold.
+    pub fn needs_rewrite_log_files(&self, pipes: &DualPipes) -> bool
+        ensures { IsTrue result ↔ IsLarge (queue_of pipes.now.append) self.now.purge_threshold }
+    {
+        is_large(files_of(pipes, LogQueue::Append), self.purge_threshold)
+    }
+
+    /// Marks and rewrites groups as is planned, before a file of the append queue, and lets the files
+    /// go that no group needs then.
+    fn clean_planned<F: FileSystem>(
+        &self,
+        files: &mut F,
+        pipes: &mut DualPipes,
+        log: &mut TracedTables,
+        plan: &Plan,
+        before: FileSeq,
+        barrier: Option<FileSeq>,
+    ) -> Result<u64, Error>
+        requires { CanCleanSome (F.disk files.old) pipes.old log.old }
+        ensures cleans { Cleans (F.disk files.old) pipes.old log.old (F.disk files.new) pipes.new log.new result }
+        ensures barrier { KeepsFromBarrier barrier pipes.old pipes.new }
+        ensures both { OnOk result (KeepBoth (F.disk files.old) pipes.old (F.disk files.new) pipes.new) }
+        ensures stands { OnErr result (IsLeftStanding (F.disk files.old) pipes.old log.old (F.disk files.new) pipes.new) }
+        ensures later { RefusesNoMore (F.is_bounded files.old) (F.is_bounded files.new) (F.meter files.old) (F.meter files.new) }
+    {
+        let alloc = self.alloc;
+        rewrite_groups(
+            alloc,
+            files,
+            pipes,
+            log,
+            &plan.marked,
+            &plan.rewritten,
+            before,
+        )?;
+        self.purge_append_files(files, pipes, log, barrier)
+    }
+
+    /// Cleans the append queue where it is large, and answers the groups that whoever writes them is
+    /// told to compact, rising, each once (raft-engine's `purge_expired_files`, of the append queue
+    /// alone). First all groups get their marks. Then what lies up to the rewrite mark is rewritten of
+    /// those that aren't left alone. Then the files go that no group needs any more, up to before the
+    /// barrier, the least file that somebody else keeps. A queue that isn't large stays as it is, and no
+    /// group is told.
+    pub fn purge_expired_files<F: FileSystem>(
+        &mut self,
+        files: &mut F,
+        pipes: &mut DualPipes,
+        log: &mut TracedTables,
+        barrier: Option<FileSeq>,
+    ) -> Result<Vec<u64>, Error>
+        requires { CanCleanSome (F.disk files.old) pipes.old log.old }
+        ensures cleans { Cleans (F.disk files.old) pipes.old log.old (F.disk files.new) pipes.new log.new result }
+        ensures barrier { KeepsFromBarrier barrier pipes.old pipes.new }
+        ensures both { OnOk result (KeepBoth (F.disk files.old) pipes.old (F.disk files.new) pipes.new) }
+        ensures stands { OnErr result (IsLeftStanding (F.disk files.old) pipes.old log.old (F.disk files.new) pipes.new) }
+        ensures later { RefusesNoMore (F.is_bounded files.old) (F.is_bounded files.new) (F.meter files.old) (F.meter files.new) }
+        ensures told { IsLarge (queue_of pipes.old.append) self.old.purge_threshold
+            → IfOk result (λ told. AreTold log.old (marks_of_pipe pipes.old.append) self.old.reports self.new.reports told.items) }
+        ensures rising { IfOk result (λ told. IsStrictlySortedBy nat_cmp told.items) }
+        ensures there { IfOk result (λ told. (group : ℕ) → is_among told.items group ≡ true → (content_in log.old.tables group).there ≡ true) }
+        ensures due { (IsLarge (queue_of pipes.old.append) self.old.purge_threshold → ⊥)
+            → IsOkAnd result (λ told. told.items ≡ []) × (files.new ≡ files.old) × (pipes.new ≡ pipes.old) × (log.new ≡ log.old) × (self.new ≡ self.old) }
+        ensures set { (self.new.alloc ≡ self.old.alloc) × (self.new.purge_threshold ≡ self.old.purge_threshold) }
+    {
+        let Some(marks) = due_marks(pipes, self.purge_threshold) else {
+            return Ok(Vec::new(self.alloc));
+        };
+        let plan = plan_for(self.alloc, log, &self.reports, marks)?;
+        self.clean_planned(files, pipes, log, &plan, marks.rewrite + 1, barrier)?;
+        self.reports = plan.reports;
+        Ok(plan.told)
     }
 }

@@ -14,13 +14,13 @@ use raft_log_traced::TracedTables;
 use std::alloc::Global;
 
 /// A batch with so many bytes is written.
-pub(crate) const MOST_BATCH_BYTES: usize = 131_072;
+pub const MOST_BATCH_BYTES: usize = 131_072;
 
 /// After so many bytes the rewrite queue is synced.
-const MOST_UNSYNCED_BYTES: u64 = 524_288;
+pub const MOST_UNSYNCED_BYTES: u64 = 524_288;
 
 /// Where the entries of a record lie in its file.
-fn place_of(block: Option<EntriesBlock>, written: FileBlockHandle) -> FileBlockHandle
+pub fn place_of(block: Option<EntriesBlock>, written: FileBlockHandle) -> FileBlockHandle
     requires { IfSome block (λ b. written.offset + b.offset < 2 ^ 64) }
     ensures is { (b : EntriesBlock) → block ≡ Some b → IsPlace written b result }
     ensures id { result.id ≡ written.id }

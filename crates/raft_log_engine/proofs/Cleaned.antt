@@ -1,22 +1,22 @@
 -- A cleaning of an engine's log: what it begins with, what it leaves after `Ok`, and what a crash leaves of one that was refused.
-use Rattle.std.proofs.Common.{◌≡◌, ℕ, Bool, true, false, List, [], ◌∷◌, ◌++◌, take, refl, sym, ap, subst, ◌∙◌}
+use Rattle.std.proofs.Common.{◌≡◌, ◌⊎◌, ℕ, ◌+◌, ◌-◌, length, Bool, true, false, List, [], ◌∷◌, ◌++◌, take, refl, sym, ap, subst, ◌∙◌}
 use Rattle.std.specs.Prelude.{Result, Ok, Err, OnOk, OnErr}
 use Rattle.std.proofs.lemmas.Bool.{false≢true}
 use Rattle.std.proofs.lemmas.List.{append-nil, map-append}
 use Rattle.std.proofs.Math.Seq.{take-nil}
 use Rattle.raft_log_records.specs.declared.file_id.FileBlockHandle.{FileBlockHandle}
+use Rattle.raft_log_records.specs.declared.file_id.LogQueue.{LogQueue}
 use Rattle.raft_log_records.specs.declared.file_id.LogQueue.TheVariants.{Append, Rewrite}
 use Rattle.raft_log_disk.specs.Disk.{Disk, IsNamed}
 use Rattle.raft_log_disk.specs.Image.{Image}
 use Rattle.raft_log_disk.specs.Text.{Text}
 use Rattle.raft_log_files.specs.declared.recovery.RecoveryMode.{RecoveryMode}
+use Rattle.raft_log_files.specs.declared.recovery.RecoveryMode.TheVariants.{TolerateTailCorruption}
 use Rattle.raft_log_files.specs.declared.error.Error.{Error}
 use Rattle.raft_log_file.specs.Laws.{Batch}
 use Rattle.raft_log_pipe.specs.declared.pipe.SinglePipe.{SinglePipe}
 use Rattle.raft_log_pipe.specs.Pipe.{Holds, Numbered, first_of}
-use Rattle.raft_log_pipe.proofs.PipeLemmas.{holds_leaves}
 use Rattle.raft_log_pipes.specs.declared.pipes.DualPipes.{DualPipes}
-use Rattle.raft_log_memtables.specs.declared.memtables.MemTables.{MemTables}
 use Rattle.raft_log_memtables.specs.Content.{Content}
 use Rattle.raft_log_memtables.specs.Replay.{content_of}
 use Rattle.raft_log_covers.specs.Queues.{batches_of}
@@ -24,24 +24,31 @@ use Rattle.raft_log_traces.specs.GroupTraces.{traces_in}
 use Rattle.raft_log_marks.specs.Standing.{CanBeCleaned}
 use Rattle.raft_log_marks.proofs.StandingLemmas.{cleaned_queues_read_as_the_content}
 use Rattle.raft_log_traced.specs.declared.traced.TracedTables.{TracedTables}
-use Rattle.raft_log_recovery.specs.Crashed.{IsCrashed, OpensWith}
+use Rattle.raft_log_recovery.specs.Crashed.{HasLastingHole, IsCrashed, OpensWith}
 use Rattle.raft_log_blocks.specs.Held.{IsKept, content_of_batches, seen_on}
 use Rattle.raft_log_blocks.proofs.HeldLemmas.{answered, held_answered, held_kept, kept_held, kept_on, synced_kept}
-use Rattle.raft_log_cleaner.specs.Cleaning.{CanClean, LeavesContent}
+use Rattle.raft_log_pipe.specs.Alone.{IsNearlyAlone, directories_of_pipe}
+use Rattle.raft_log_pipe.specs.Kept.{KeepsSettings}
+use Rattle.raft_log_pipes.specs.Kept.{KeepSettings}
+use Rattle.raft_log_pipes.specs.Pipes.{pipe_of}
+use Rattle.raft_log_cleaner.specs.Cleaning.{CanClean, LeavesContent, LeavesStanding}
+use Rattle.raft_log_cleaner.specs.Pipes.{HasHoleBefore, KeepBoth}
+use Rattle.raft_log_cleaning.specs.Extents.{HasOnlyNew}
 use Rattle.raft_content_log.specs.Leaving.{LeavesNoMore}
 use Rattle.raft_log_engine.specs.declared.block_cache.BlockCache.{BlockCache}
 use Rattle.raft_log_engine.specs.Cached.{HoldsBlocks, Keeps}
-use Rattle.raft_log_engine.specs.Opening.{IsFoundContent}
+use Rattle.raft_log_engine.specs.Opening.{CantBeOpened, IsFoundContent}
 use Rattle.raft_log_engine.specs.Left.{MayLeave, answers_on, leaves_on}
 use Rattle.raft_log_engine.specs.Parts.{Parts}
-use Rattle.raft_log_engine.specs.Reopened.{OpensAs, StandNearly, directories_of_pipes}
+use Rattle.raft_log_engine.specs.Reopened.{OpensAs, OpensInTail, StandAlone, directories_of_pipes}
 use Rattle.raft_log_engine.specs.Since.{HasWritten, unnumbered}
 use Rattle.raft_log_engine.specs.Still.{IsStill}
 use Rattle.raft_log_engine.specs.Traced.{IsTraced, MayBeCleaned, filed}
 use Rattle.raft_log_engine.proofs.Clauses.{HeldBy, is_left, kept_by, only_left, parts}
-use Rattle.raft_log_engine.proofs.Reopened.{left_opens, opens_with}
+use Rattle.raft_log_engine.proofs.Reopened.{opens_with, same_directories}
 use Rattle.raft_log_engine.proofs.Since.{nothing_since}
 use Rattle.raft_log_engine.proofs.Synced.{all_synced}
+use Rattle.raft_log_engine.proofs.Tails.{torn_hole}
 use Rattle.raft_log_engine.proofs.Traced.{still_traced}
 
 abbrev Seen : Type 0
@@ -101,6 +108,7 @@ module _ (d e : Disk) (p q : DualPipes) (traced : TracedTables) (wrote_unsynced 
         append = all_kept.append;
         tabled = all_kept.tabled;
         placed = may.placed;
+        together = may.together;
         cleanable = subst (λ (c : Seen). CanBeCleaned (first_of q.append) (traces_in traced.traces) (unnumbered r) c (filed all)) (sym (held_answered d p traced.tables r s u held.batches.held)) may.cleanable;
       }
 
@@ -128,6 +136,7 @@ module _ (d : Disk) (p : DualPipes) (traced : TracedTables) (content : Seen) (ca
       subst (λ (l : Numbered). IsTraced p traced can.rewrites l) (sym (append-nil can.appends)) (λ none. record {
         cleanable = subst (λ (c : Seen). CanBeCleaned (first_of p.append) (traces_in traced.traces) (unnumbered can.rewrites) c (filed can.appends)) (sym cleaned_is) can.cleanable;
         placed = can.placed;
+        together = can.together;
       })
 
   -- all is on the disk, and no block is kept
@@ -156,22 +165,73 @@ fronts_content directories d r fresh bs image e mode found rewrites appends cras
     let all_appends : f.appends ≡ bs = sym f.append.reads ∙ two.1 ∙ ap (λ (l : Numbered). bs ++ l) (take-nil two.0) ∙ append-nil bs in
     (one.0, f.is ∙ (λ i. content_of_batches (all_rewrites i ++ all_appends i)))
 
+-- both pipes' files are the last ones of their queues, but for others behind them of which a crash leaves no batches
+record StandNearly (p : DualPipes) (d : Disk) : Type 0 where
+  paths : directories_of_pipe p.rewrite ≡ directories_of_pipe p.append
+  append : IsNearlyAlone p.append d
+  rewrite : IsNearlyAlone p.rewrite d
+
 -- whichever front, it is the content of before
-pub refused_reads : (d : Disk) (p : DualPipes) (content : Seen) → IsNamed d → LeavesContent d p content → StandNearly p d → OpensAs (directories_of_pipes p) d content
+refused_reads : (d : Disk) (p : DualPipes) (content : Seen) → IsNamed d → LeavesContent d p content → StandNearly p d → OpensAs (directories_of_pipes p) d content
 refused_reads d p content named left stand image e mode found crashed f =
     let c = fronts_content (directories_of_pipes p) d left.rewrites left.fresh left.appends image e mode found
     (subst (λ (l : List Text). OpensWith l Rewrite d left.rewrites left.fresh) stand.paths (opens_with Rewrite d p.rewrite left.rewrites left.fresh named p.rewrites stand.rewrite left.rewrite))
     (opens_with Append d p.append left.appends [] named p.appends stand.append left.append) crashed f in
     c.1 ∙ left.fronts c.0
 
--- so it is where all of it is on the disk
-pub nearly_opens : (d : Disk) (p : DualPipes) (tables : MemTables) (r bs : Numbered) → IsNamed d → IsKept d p tables r bs → StandNearly p d → OpensAs (directories_of_pipes p) d (seen_on d p tables)
-nearly_opens d p tables r bs named kept stand =
-    left_opens d p r bs (seen_on d p tables) named (record {
-      paths = stand.paths;
-      alone = stand.rewrite;
-      leaves = holds_leaves p.rewrite.queue p.rewrite.older.items p.rewrite.active p.rewrite.writer.offset d r [] kept.rewrite;
-    }) stand.append (holds_leaves p.append.queue p.append.older.items p.append.active p.append.writer.offset d bs [] kept.append) (answered d p tables r bs kept)
+module _ (d e : Disk) (p q : DualPipes) (content : Seen) (named : IsNamed e) (stands : LeavesStanding d p e q content) (alone : StandAlone p d) where
+  abbrev all : DualPipes
+  all = stands.pipes
+
+  same_append : directories_of_pipe all.append ≡ directories_of_pipe p.append
+  same_append = same_directories p.append all.append stands.append.paths.1
+
+  -- those of the engine
+  of_engine : directories_of_pipes all ≡ directories_of_pipes q
+  of_engine = same_append ∙ sym (same_directories p.append q.append stands.append.paths.0)
+
+  standing_paths : directories_of_pipe all.rewrite ≡ directories_of_pipe all.append
+  standing_paths = same_directories p.rewrite all.rewrite stands.rewrite.paths.1 ∙ alone.paths ∙ sym same_append
+
+  -- by the files that stand, an opening answers the content
+  pub standing_opens : OpensAs (directories_of_pipes q) e content
+  standing_opens =
+      subst (λ (l : List Text). OpensAs l e content) of_engine
+      (refused_reads e all content named stands.leaves (record { paths = standing_paths; append = stands.append.nearly alone.append; rewrite = stands.rewrite.nearly alone.rewrite }))
+
+  -- and refuses nothing but holes
+  pub standing_in_tail : OpensInTail (directories_of_pipes q) e q
+  standing_in_tail image left queue crashed cant =
+      of_queue queue (torn_hole e all named standing_paths (stands.rewrite.torn alone.rewrite) (stands.append.torn alone.append) image left queue crashed
+      (subst (λ (l : List Text). CantBeOpened TolerateTailCorruption l queue left) (sym of_engine) cant))
+    where
+      of_queue : (x : LogQueue) → HasLastingHole (pipe_of all x) e → HasLastingHole (pipe_of q x) e ⊎ HasHoleBefore (pipe_of q x) e
+      of_queue Append hole = stands.append.holes alone.append hole
+      of_queue Rewrite hole = stands.rewrite.holes alone.rewrite hole
+
+-- ---- after it the files are the last ones of both queues still
+
+pub both_stand : (d e : Disk) (p q : DualPipes) → KeepBoth d p e q → StandAlone p d → StandAlone q e
+both_stand d e p q kept alone = record {
+  paths = same_directories p.rewrite q.rewrite kept.1.paths ∙ alone.paths ∙ sym (same_directories p.append q.append kept.0.paths);
+  append = kept.0.alone alone.append;
+  rewrite = kept.1.alone alone.rewrite;
+}
+
+pub same_first : (p q : SinglePipe) → (q.active ≡ p.active) × (q.older ≡ p.older) → first_of q ≡ first_of p
+same_first p q same i = (same.0 i).seq - length (same.1 i).items
+
+pub only_new_since : (p q r : DualPipes) → (q.append.active ≡ p.append.active) × (q.append.older ≡ p.append.older) → q.rewrite ≡ p.rewrite → HasOnlyNew q r → HasOnlyNew p r
+only_new_since p q r same rewrite new = record {
+  rewrite = new.rewrite ∙ ap (λ (x : SinglePipe). x.active.seq + 1) rewrite;
+  append = new.append ∙ same_first p.append q.append same;
+}
+
+pub set_then : (p q r : DualPipes) → KeepSettings p q → KeepSettings q r → KeepSettings p r
+set_then p q r one two = (settings_then p.append q.append r.append one.0 two.0, settings_then p.rewrite q.rewrite r.rewrite one.1 two.1)
+  where
+    settings_then : (a b c : SinglePipe) → KeepsSettings a b → KeepsSettings b c → KeepsSettings a c
+    settings_then a b c one two = (two.0 ∙ one.0, two.1 ∙ one.1)
 
 -- ---- what a crash leaves, by accounts
 

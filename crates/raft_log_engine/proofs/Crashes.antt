@@ -1,5 +1,5 @@
 -- A log whose files crash where they lie, and files that show nothing by chance.
-use Rattle.std.proofs.Common.{◌≡◌, inl, inr, ℕ, Bool, true, false, cond, eqb, List, [], ◌∷◌, refl, sym, ap, subst, ◌∙◌}
+use Rattle.std.proofs.Common.{◌≡◌, ◌⊎◌, inl, inr, ℕ, Bool, true, false, cond, eqb, List, [], ◌∷◌, refl, sym, ap, subst, ◌∙◌}
 use Rattle.std.specs.Prelude.{Result, Ok, Err, IfErr, OnErr, OnOk, MatchOption}
 use Rattle.std.specs.List.{AllByRecursion}
 use Rattle.std.proofs.lemmas.Bool.{eqb-false, eqb-true, false≢true}
@@ -18,9 +18,12 @@ use Rattle.raft_log_disk.specs.Text.{Text}
 use Rattle.raft_log_disk.proofs.LawLemmas.{all_among, most_is_an_image, still_image}
 use Rattle.raft_log_files.specs.declared.config.Config.{Config}
 use Rattle.raft_log_memtables.specs.Content.{Content}
-use Rattle.raft_log_pipe.specs.Alone.{Names}
+use Rattle.raft_log_pipe.specs.declared.pipe.SinglePipe.{SinglePipe}
+use Rattle.raft_log_pipe.specs.Alone.{Names, StandsAt, directories_of_pipe}
 use Rattle.raft_log_pipes.specs.declared.pipes.DualPipes.{DualPipes}
-use Rattle.raft_log_recovery.specs.Crashed.{IsCrashed}
+use Rattle.raft_log_pipes.specs.Pipes.{pipe_of}
+use Rattle.raft_log_recovery.specs.Crashed.{HasLastingHole, IsCrashed}
+use Rattle.raft_log_cleaner.specs.Pipes.{HasHoleBefore}
 use Rattle.raft_log_engine.specs.Parts.{Parts}
 use Rattle.raft_log_engine.specs.Log.{CantBeLeftSo, IsCrashedLog, IsFoundBy, IsLog, IsSameLog, LogOn, MayBeFound, leaves_of_log, main_directory}
 use Rattle.raft_log_engine.specs.Reopened.{OpensInTail, StandAlone, directories_of_engine, directories_of_pipes}
@@ -67,10 +70,25 @@ crashed_again d e left image later first is second = record {
 }
 
 -- what an opening that tolerates a torn tail refuses then it would have refused
+module _ (d e : Disk) (image : Image) (crashed : IsCrashed d image e) (is : e ≡ after_crash d image) where
+  hole_crashed : (q : SinglePipe) → HasLastingHole q d ⊎ HasHoleBefore q d → HasLastingHole q e ⊎ HasHoleBefore q e
+  hole_crashed q (inl hole) = inl (hole.0, hole.1, crashed.bytes hole.0.handle.0 ∙ hole.3 image crashed.is, λ x are. hole.3 x (left_again d e image x crashed is are))
+  hole_crashed q (inr hole) = inr (record {
+    seq = hole.seq;
+    place = hole.place;
+    fd = hole.fd;
+    stands = subst (λ (n : Names). StandsAt n (directories_of_pipe q) q.queue hole.seq hole.place hole.fd) (sym crashed.names) hole.stands;
+    before = hole.before;
+    between = λ n from below.
+        let there = hole.between n from below in
+        (there.0, there.1, subst (λ (l : Names). StandsAt l (directories_of_pipe q) q.queue n there.0 there.1) (sym crashed.names) there.2);
+    none = crashed.bytes hole.fd ∙ hole.lasting image crashed.is;
+    lasting = λ x are. hole.lasting x (left_again d e image x crashed is are);
+  })
+
 pub crashed_in_tail : (directories : List Text) (d e : Disk) (p : DualPipes) (image : Image) → IsCrashed d image e → e ≡ after_crash d image → OpensInTail directories d p → OpensInTail directories e p
 crashed_in_tail directories d e p image crashed is opens later left queue second cant =
-    let hole = opens later left queue (crashed_again d e left image later crashed is second) cant in
-    (hole.0, hole.1, crashed.bytes hole.0.handle.0 ∙ hole.3 image crashed.is, λ x are. hole.3 x (left_again d e image x crashed is are))
+    hole_crashed d e image crashed is (pipe_of p queue) (opens later left queue (crashed_again d e left image later crashed is second) cant)
 
 -- ---- what a crashed log leaves
 

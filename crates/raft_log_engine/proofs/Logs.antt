@@ -14,7 +14,7 @@ use Rattle.raft_log_file.specs.Laws.{Batch}
 use Rattle.raft_log_files.specs.declared.config.Config.{Config}
 use Rattle.raft_log_files.specs.declared.recovery.RecoveryMode.{RecoveryMode}
 use Rattle.raft_log_memtables.specs.Content.{Content, after_batch}
-use Rattle.raft_content_log.specs.Leaving.{IsEither, IsWritten, LeavesEither, LeavesElsewhere, LeavesOnly, MayBeWritten}
+use Rattle.raft_content_log.specs.Leaving.{IsEither, IsWritten, LeavesEither, LeavesElsewhere, LeavesNoMore, LeavesOnly, MayBeWritten}
 use Rattle.raft_log_recovery.specs.Crashed.{IsCrashed}
 use Rattle.raft_log_engine.specs.Parts.{Parts}
 use Rattle.raft_log_engine.specs.Left.{answers_on}
@@ -89,6 +89,14 @@ module _ {F : Type 0} (disk : F → Disk) (settings : Config) where
       → LeavesEither (leaves_of_log disk (log e true)) before content
   leaves_either e before content at opens left (inl answered) = absurd (false≢true (sym answered.0))
   leaves_either e before content at opens left (inr may) = found_there e (IsEither before content) at opens left may
+
+  -- ---- a cleaning, refused or not: the content of before is found
+
+  pub is_cleaned : (old new : Parts F) → IsInMain old → new.pipes.append.paths ≡ old.pipes.append.paths → (has_failed failed : Bool) → has_failed ≡ false → (failed ≡ false → answers_on disk new ≡ answers_on disk old)
+      → OpensAs (directories_of_engine new) (disk new.files) (answers_on disk old) → LeavesNoMore (leaves_of_log disk (log old has_failed)) (leaves_of_log disk (log new failed))
+  is_cleaned old new at paths has_failed failed goes_on same opens left (inl answered) = inl (goes_on, answered.1 ∙ same answered.0)
+  is_cleaned old new at paths has_failed failed goes_on same opens left (inr may) =
+      inl (goes_on, found_there new (λ found. found ≡ answers_on disk old) (still_in_main old new at paths) opens left may)
 
   -- ---- a write
 

@@ -33,6 +33,8 @@ use Rattle.raft_log_marks.specs.Mapped.{filed_map, items_map}
 use Rattle.raft_log_marks.specs.Opened.{TellPlaces}
 use Rattle.raft_log_marks.specs.Standing.{CanBeCleaned}
 use Rattle.raft_log_marks.proofs.MappedLemmas.{cleaned_mapped, rise_before}
+use Rattle.raft_log_purge.specs.Anew.{StandTogether}
+use Rattle.raft_log_purge.proofs.ToldLemmas.{maps_together}
 use Rattle.raft_log_blocks.specs.Held.{IsTabled, ReadsEntries, content_of_batches}
 use Rattle.raft_log_blocks.specs.Placed.{bytes_on}
 use Rattle.raft_log_blocks.proofs.EntryReads.{disk_reads}
@@ -49,6 +51,7 @@ pub record MayBeTraced (first : ℕ) (traced : TracedTables) (rewrites appends :
       → CanBeCleaned first (traces_in traced.traces) (records_in rewrites) (content_in traced.tables) (filed_in appends)
   pub placed : FilesRise first (filed_in appends) → AreUnmarked (queues.batches_of (filed_in appends)) → TellPlaces lies_in (traces_in traced.traces) (content_in traced.tables)
   pub unmarked : traced.has_marked ≡ false → AreUnmarked (queues.batches_of (filed_in appends))
+  pub together : traced.is_parted ≡ false → StandTogether (records_in rewrites)
 
 abbrev filed_seen : (EntryIndex → List ℕ) → List Placed → List (Filed (List ℕ))
 filed_seen f all = map (filed_map f) (filed_in all)
@@ -127,6 +130,7 @@ found_traced d new p rfs afs ones twos traced pipes rewrite append in_rewrites i
           (subst (λ (l : List Batch). CanBeCleaned first (traces_in traced.traces) l (content_map read (content_in traced.tables)) (filed_seen read twos)) records
           (cleaned_mapped read first (traces_in traced.traces) (records_in ones) (content_in traced.tables) (filed_in twos) (may.cleanable low plain))));
       placed = may.placed low plain;
+      together = λ is. subst (λ (l : List Batch). StandTogether l) records ((maps_together read (records_in ones)).1 (may.together is));
     }
 
 pub recovered_traced : (b : DualPipesBuilder) (made new : Disk) (p : DualPipes) (all : List Placed) (traced : TracedTables) → ArePipes p new → (w : ArePipesWith b made new p all) → content_in traced.tables ≡ content_over nothing all

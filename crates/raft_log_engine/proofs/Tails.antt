@@ -1,5 +1,5 @@
 -- An opening that tolerates a torn tail refuses nothing of what a crash left of an engine's files.
-use Rattle.std.proofs.Common.{◌≡◌, ℕ, Bool, List, [], ◌∷◌, ◌++◌, take, drop, sym, ap, subst, ◌∙◌}
+use Rattle.std.proofs.Common.{◌≡◌, inl, ℕ, Bool, List, [], ◌∷◌, ◌++◌, take, drop, sym, ap, subst, ◌∙◌}
 use Rattle.std.specs.Prelude.{Result, Ok, Err, OnOk, OnErr}
 use Rattle.raft_log_records.specs.declared.file_id.LogQueue.{LogQueue}
 use Rattle.raft_log_records.specs.declared.file_id.LogQueue.TheVariants.{Append, Rewrite}
@@ -41,19 +41,30 @@ queue_in_tail d q queue named is torn image e crashed =
     subst (λ (x : LogQueue). CantBeOpened TolerateTailCorruption (directories_of_pipe q) x e → HasLastingHole q d) is
     (λ cant. torn_opened q d named torn image e cant.made cant.names crashed cant.makes cant.found cant.refused)
 
+-- what such an opening refuses is a hole of a pipe
+abbrev HoleIsRefused : List Text → Disk → DualPipes → Type 0
+HoleIsRefused directories d p = (image : Image) (e : Disk) (queue : LogQueue) → IsCrashed d image e → CantBeOpened TolerateTailCorruption directories queue e → HasLastingHole (pipe_of p queue) d
+
+hole_in_tail : (directories : List Text) (d : Disk) (p : DualPipes) → HoleIsRefused directories d p → OpensInTail directories d p
+hole_in_tail directories d p refused image e queue crashed cant = inl (refused image e queue crashed cant)
+
 -- of both
-pub torn_in_tail : (d : Disk) (p : DualPipes) → IsNamed d → directories_of_pipe p.rewrite ≡ directories_of_pipe p.append → IsTornAtEnd p.rewrite d → IsTornAtEnd p.append d → OpensInTail (directories_of_pipes p) d p
-torn_in_tail d p named paths rewrite append image e Append crashed cant = queue_in_tail d p.append Append named p.appends append image e crashed cant
-torn_in_tail d p named paths rewrite append image e Rewrite crashed cant =
+pub torn_hole : (d : Disk) (p : DualPipes) → IsNamed d → directories_of_pipe p.rewrite ≡ directories_of_pipe p.append → IsTornAtEnd p.rewrite d → IsTornAtEnd p.append d → HoleIsRefused (directories_of_pipes p) d p
+torn_hole d p named paths rewrite append image e Append crashed cant = queue_in_tail d p.append Append named p.appends append image e crashed cant
+torn_hole d p named paths rewrite append image e Rewrite crashed cant =
     queue_in_tail d p.rewrite Rewrite named p.rewrites rewrite image e crashed (subst (λ (l : List Text). CantBeOpened TolerateTailCorruption l Rewrite e) (sym paths) cant)
 
 pub held_in_tail : (d : Disk) (p : DualPipes) (r bs us : Numbered) → IsNamed d → StandAlone p d → Holds p.rewrite d r [] → Holds p.append d bs us → OpensInTail (directories_of_pipes p) d p
-held_in_tail d p r bs us named alone rewrite append = torn_in_tail d p named alone.paths (held_torn p.rewrite d alone.rewrite r [] rewrite) (held_torn p.append d alone.append bs us append)
+held_in_tail d p r bs us named alone rewrite append =
+    hole_in_tail (directories_of_pipes p) d p (torn_hole d p named alone.paths (held_torn p.rewrite d alone.rewrite r [] rewrite) (held_torn p.append d alone.append bs us append))
 
 -- behind a call on the append queue, refused or not
+left_hole : (p q : DualPipes) (d e : Disk) (r s u : Numbered) → IsNamed e → KeepsRewrites p d q e → StandAlone p d → Holds p.rewrite d r [] → Holds p.append d s u → TearsAtEnd p.append d q.append e → HoleIsRefused (directories_of_pipes q) e q
+left_hole p q d e r s u named keeps alone rewrite append tears =
+    torn_hole e q named (paths_on p q d e keeps alone) (held_torn q.rewrite e (keeps.other.alone alone.rewrite) r [] (keeps.other.holds r [] rewrite)) (tears alone.append s u append)
+
 pub left_in_tail : (p q : DualPipes) (d e : Disk) (r s u : Numbered) → IsNamed e → KeepsRewrites p d q e → StandAlone p d → Holds p.rewrite d r [] → Holds p.append d s u → TearsAtEnd p.append d q.append e → OpensInTail (directories_of_pipes q) e q
-left_in_tail p q d e r s u named keeps alone rewrite append tears =
-    torn_in_tail e q named (paths_on p q d e keeps alone) (held_torn q.rewrite e (keeps.other.alone alone.rewrite) r [] (keeps.other.holds r [] rewrite)) (tears alone.append s u append)
+left_in_tail p q d e r s u named keeps alone rewrite append tears = hole_in_tail (directories_of_pipes q) e q (left_hole p q d e r s u named keeps alone rewrite append tears)
 
 -- with one more batch
 pub more_in_tail : {F : Type 0} (disk : F → Disk) (old : Parts F) → HeldBy disk old → (files : F) (p : DualPipes) (sync : Bool) (seq : ℕ) (items : Batch) → IsNamed (disk files) → StandAlone p (disk files)
@@ -88,9 +99,9 @@ closed_torn p q d e x queue call alone s u holds = by_result x call.ok call.err
     by_result (Err why) ok err = held_torn q e there s u (err s u holds)
 
 -- the files before the last ones stay
-same_in_tail : (p q : DualPipes) (e : Disk) → directories_of_pipes q ≡ directories_of_pipes p → q.append.older ≡ p.append.older → q.rewrite.older ≡ p.rewrite.older → OpensInTail (directories_of_pipes q) e q → OpensInTail (directories_of_pipes p) e p
+same_in_tail : (p q : DualPipes) (e : Disk) → directories_of_pipes q ≡ directories_of_pipes p → q.append.older ≡ p.append.older → q.rewrite.older ≡ p.rewrite.older → HoleIsRefused (directories_of_pipes q) e q → OpensInTail (directories_of_pipes p) e p
 same_in_tail p q e paths append rewrite opens image left queue crashed cant =
-    hole_before queue (opens image left queue crashed (subst (λ (l : List Text). CantBeOpened TolerateTailCorruption l queue left) (sym paths) cant))
+    inl (hole_before queue (opens image left queue crashed (subst (λ (l : List Text). CantBeOpened TolerateTailCorruption l queue left) (sym paths) cant)))
   where
     hole_before : (x : LogQueue) → HasLastingHole (pipe_of q x) e → HasLastingHole (pipe_of p x) e
     hole_before Append hole = subst (HasOlderHole e) (λ i. (append i).items) hole
@@ -107,7 +118,7 @@ module _ (p q : DualPipes) (d e : Disk) (x : Result (Unit {0}) Error) (first : I
   pub first_in_tail : IsNamed e → OpensInTail (directories_of_pipes p) e p
   first_in_tail named =
       same_in_tail p q e (same_directories p.append q.append first.paths) first.same.1 (ap (λ (y : SinglePipe). y.older) other.same)
-      (left_in_tail p q d e r s u named (record { paths = first.paths; other = other }) alone rewrite append (closed_torn p.append q.append d e x first_queue first))
+      (left_hole p q d e r s u named (record { paths = first.paths; other = other }) alone rewrite append (closed_torn p.append q.append d e x first_queue first))
 
   -- then the rewrite queue was, or that was refused
   module _ (t : DualPipes) (f : Disk) (y : Result (Unit {0}) Error) (second : IsCloseOf q.rewrite e t.rewrite f y) (beside : IsAsBefore q.append e t.append f) where
@@ -121,6 +132,6 @@ module _ (p q : DualPipes) (d e : Disk) (x : Result (Unit {0}) Error) (first : I
     pub both_in_tail : IsNamed f → OpensInTail (directories_of_pipes p) f p
     both_in_tail named =
         same_in_tail p t f (same_directories p.append t.append closed_paths) (ap (λ (z : SinglePipe). z.older) beside.same ∙ first.same.1) (second.same.1 ∙ ap (λ (z : SinglePipe). z.older) other.same)
-        (torn_in_tail f t named (same_directories q.rewrite t.rewrite second.paths ∙ ap directories_of_pipe other.same ∙ alone.paths ∙ sym (same_directories p.append t.append closed_paths))
+        (torn_hole f t named (same_directories q.rewrite t.rewrite second.paths ∙ ap directories_of_pipe other.same ∙ alone.paths ∙ sym (same_directories p.append t.append closed_paths))
         (closed_torn q.rewrite t.rewrite e f y (t.rewrites ∙ sym q.rewrites) second (other.alone alone.rewrite) r [] (other.holds r [] rewrite))
         (append_torn x first.ok first.err))

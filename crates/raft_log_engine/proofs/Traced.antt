@@ -92,6 +92,7 @@ pub record IsNoted (was now : TracedTables) (h : FileBlockHandle) (items : Batch
   pub applied : content_in now.tables ≡ after_batch (items_in place drained) (content_in was.tables)
   pub traces : AreAlike (traces_after h.id.seq drained (traces_in was.traces)) (traces_in now.traces)
   pub marked : now.has_marked ≡ was.has_marked
+  pub parted : now.is_parted ≡ was.is_parted
 
 -- a batch of an append file that its pipe has now
 module _ (was now : TracedTables) (h : FileBlockHandle) (items : Batch) (noted : IsNoted was now h items) (first : ℕ) (records : List Batch) (content : Content (List ℕ)) (bs : List (Filed (List ℕ)))
@@ -160,6 +161,7 @@ more_traced p q e was now r bs synced unsynced h items numbers more keeps stands
           (subst (λ (c : Content (List ℕ)). CanBeCleaned first (traces_in now.traces) (unnumbered r) c (filed bs ++ last ∷ [])) (sym (more_content r bs h.id.seq items noted.plain))
           (noted_cleaned was now h items noted first (unnumbered r) content (filed bs) same low rise can));
       placed = noted_told was now h items noted first (unnumbered r) content (filed bs) same low rise queue can old.placed;
+      together = λ is. old.together (sym noted.parted ∙ is);
     })
 
 -- ---- the same files, and the same batches
@@ -171,4 +173,5 @@ still_traced p q traced r bs more same is was =
     record {
       cleanable = subst (λ (n : ℕ). CanBeCleaned n (traces_in traced.traces) (unnumbered r) (content_of_batches (r ++ bs)) (filed bs)) (λ i. (sym same.0 i).seq - length (sym same.1 i).items) old.cleanable;
       placed = old.placed;
+      together = old.together;
     })

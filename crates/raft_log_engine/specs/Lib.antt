@@ -3,6 +3,7 @@ pub mod Cached
 pub mod Parts
 pub mod Left
 pub mod Log
+pub mod Met
 pub mod Opening
 pub mod Reads
 pub mod Scanning

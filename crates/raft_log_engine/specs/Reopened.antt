@@ -1,5 +1,5 @@
 -- What an opening of an engine's files answers, after a crash or without one.
-use Rattle.std.specs.Prelude.{◌≡◌, ℕ, List, take}
+use Rattle.std.specs.Prelude.{◌≡◌, ◌⊎◌, ℕ, List, take}
 use Rattle.raft_log_records.specs.declared.file_id.LogQueue.{LogQueue}
 use Rattle.raft_log_disk.specs.Disk.{Disk}
 use Rattle.raft_log_disk.specs.Image.{Image}
@@ -7,12 +7,13 @@ use Rattle.raft_log_disk.specs.Text.{Text}
 use Rattle.raft_log_files.specs.declared.recovery.RecoveryMode.{RecoveryMode}
 use Rattle.raft_log_files.specs.declared.recovery.RecoveryMode.TheVariants.{TolerateTailCorruption}
 use Rattle.raft_log_file.specs.Laws.{Batch}
-use Rattle.raft_log_pipe.specs.Alone.{IsAlone, IsNearlyAlone, directories_of_pipe}
+use Rattle.raft_log_pipe.specs.Alone.{IsAlone, directories_of_pipe}
 use Rattle.raft_log_pipes.specs.declared.pipes.DualPipes.{DualPipes}
 use Rattle.raft_log_pipes.specs.Pipes.{pipe_of}
 use Rattle.raft_log_memtables.specs.Content.{Content}
 use Rattle.raft_log_recovery.specs.Crashed.{HasLastingHole, IsCrashed}
 use Rattle.raft_content_log.specs.Leaving.{IsEither}
+use Rattle.raft_log_cleaner.specs.Pipes.{HasHoleBefore}
 use Rattle.raft_log_engine.specs.Parts.{Parts}
 use Rattle.raft_log_engine.specs.Opening.{CantBeOpened, IsFoundContent}
 use Rattle.raft_log_engine.specs.Since.{after_batches}
@@ -34,9 +35,12 @@ OpensAsFront directories d before batches =
     → (k : ℕ) × (found ≡ after_batches (take k batches) before)
 
 -- Whatever a crash leaves of a disk, an opening that tolerates a torn tail finds nothing that it refuses: no fault before the last
--- file of a queue, and no alignment. But where a pipe has a hole: a file before its last one has no bytes, and no crash leaves it any
+-- file of a queue, and no alignment. But where a pipe has a hole, or a hole stands before its files: a file before the last one has
+-- no bytes, and no crash leaves it any. None stands before files that are the last ones of their queue
 abbrev pub OpensInTail : List Text → Disk → DualPipes → Type 0
-OpensInTail directories d p = (image : Image) (e : Disk) (queue : LogQueue) → IsCrashed d image e → CantBeOpened TolerateTailCorruption directories queue e → HasLastingHole (pipe_of p queue) d
+OpensInTail directories d p =
+    (image : Image) (e : Disk) (queue : LogQueue) → IsCrashed d image e → CantBeOpened TolerateTailCorruption directories queue e
+    → HasLastingHole (pipe_of p queue) d ⊎ HasHoleBefore (pipe_of p queue) d
 
 -- where files of both queues lie
 abbrev pub directories_of_pipes : DualPipes → List Text
@@ -47,12 +51,6 @@ pub record StandAlone (p : DualPipes) (d : Disk) : Type 0 where
   pub paths : directories_of_pipe p.rewrite ≡ directories_of_pipe p.append
   pub append : IsAlone p.append d
   pub rewrite : IsAlone p.rewrite d
-
--- So they are, but for others behind them of which a crash leaves no batches, as a refused call may begin one
-pub record StandNearly (p : DualPipes) (d : Disk) : Type 0 where
-  pub paths : directories_of_pipe p.rewrite ≡ directories_of_pipe p.append
-  pub append : IsNearlyAlone p.append d
-  pub rewrite : IsNearlyAlone p.rewrite d
 
 -- where an engine's files lie
 abbrev pub directories_of_engine : {F : Type 0} → Parts F → List Text

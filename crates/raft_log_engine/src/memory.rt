@@ -58,7 +58,7 @@ pub struct LogFiles {
 pub struct MemoryLog {
     pub(crate) engine: Engine<MemoryFileSystem>,
     pub(crate) settings: Config,
-    /// A write was refused.
+    /// A write or a cleaning was refused.
     pub(crate) has_failed: bool,
 }
 
@@ -250,15 +250,22 @@ impl ContentLog for MemoryLog {
     type Fault = EngineFault;
 
     ghost use Rattle.std.specs.Prelude.{◌≡◌, false};
-    ghost use Rattle.raft_log_disk.specs.MemorySystem.{disk_in};
+    ghost use Rattle.raft_log_disk.specs.MemorySystem.{disk_in, is_bounded_in, meter_in};
     ghost use Rattle.raft_log_engine.specs.Left.{answers_on};
     ghost use Rattle.raft_log_engine.specs.Log.{leaves_of_log};
+    ghost use Rattle.raft_log_engine.specs.Met.{Meets, meets_later, meets_none};
 
     ghost is_sound = { λ l. l.has_failed ≡ false };
 
     ghost answers = { λ l. answers_on disk_in l.engine };
 
     ghost leaves = { λ l content. leaves_of_log disk_in l content };
+
+    ghost meets = { λ old new met. Meets is_bounded_in meter_in old new met };
+
+    ghost meets_none = { λ x. meets_none is_bounded_in meter_in x };
+
+    ghost meets_later = { λ x y z met first second. meets_later is_bounded_in meter_in x y z met first second };
 
     fn write(&mut self, batch: &mut LogBatch) -> Result<(), EngineFault> {
         if self.has_failed {

@@ -174,6 +174,7 @@ impl<F: FileSystem + Drop> Engine<F> {
             → IfErr result (λ refused. IsUnopenable (settings_fault (settings_of config)) config.recovery_mode (directories_of (settings_of config))
             (F.disk files) (F.disk refused.files) refused.fault) }
     {
+        let purge_threshold = config.purge_threshold.0;
         match found_soundly(way, &mut files, alloc, config) {
             Ok((pipes, traced)) => Ok(Engine {
                 alloc,
@@ -183,7 +184,7 @@ impl<F: FileSystem + Drop> Engine<F> {
                 is_stopped: false,
                 wrote_unsynced: false,
                 blocks: BlockCache::new(alloc),
-                manager: PurgeManager::new(alloc),
+                manager: PurgeManager::new(alloc, purge_threshold),
             }),
             Err(fault) => Err(NotOpened { fault, files }),
         }

@@ -62,6 +62,7 @@ pub(crate) fn apply(
         × (content_in traced.new.tables ≡ after_batch (batch_items place items) (content_in traced.old.tables)) × (place.id ≡ written.id)) }
     ensures traces { OnOk result (AreAlike (traces_after written.id.seq (items_of items.items.items) (traces_in traced.old.traces)) (traces_in traced.new.traces)) }
     ensures marked { traced.new.has_marked ≡ traced.old.has_marked }
+    ensures parted { traced.new.is_parted ≡ traced.old.is_parted }
     ensures err { IfErr result (λ e. e ≡ Log Memory) }
 {
     let place = match block {

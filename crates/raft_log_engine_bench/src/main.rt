@@ -5,14 +5,21 @@
 //! are. `write` writes them, each with a sync, and `files` each to a file of its own; `open` closes
 //! the engine too, and opens it again, and `workers 4` the same with files of 4 MB, by so many workers;
 //! `fetch` reads the last batch of a group behind each write, and `get` each of its entries by a call
-//! of its own. The answer is the last index of the first group.
+//! of its own. `live` cleans the append queue of all that was written, `dead` once all is compacted, and
+//! `compact` only compacts. The answer is the last index of the first group.
+//!
+//! `steady 64 1 1000 5000` puts 64 bytes under a key of each of 1,000 groups, and 5,000 times under one
+//! key of another group, in files of 64 KB that are cleaned past 256 KB. The answer is how many bytes
+//! the puts wrote, and how many cleanings wrote anew.
 #![tactic(auto)]
 
+mod steady;
 mod task;
 mod work;
 
 use std::io;
-use task::parse;
+use steady::steady;
+use task::{Work, parse};
 use work::run;
 
 fn main(rt: HostRuntime) -> io::Result<()> {
@@ -22,6 +29,13 @@ fn main(rt: HostRuntime) -> io::Result<()> {
             println!(rt; "{line}: no task")?;
             continue;
         };
+        if task.work == Work::Steady {
+            match steady(rt.alloc(), task) {
+                Ok(it) => println!(rt; "{line}: {} put, {} anew", it.put, it.anew)?,
+                Err(fault) => println!(rt; "{line}: {fault}")?,
+            }
+            continue;
+        }
         match run(&rt, rt.alloc(), task) {
             Ok(Some(last)) => println!(rt; "{line}: {last}")?,
             Ok(None) => println!(rt; "{line}: none")?,

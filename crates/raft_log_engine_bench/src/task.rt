@@ -10,6 +10,14 @@ pub enum Work {
     Workers(usize),
     Fetch,
     Get,
+    /// All is compacted.
+    Compact,
+    /// All is compacted, and the log cleaned.
+    Dead,
+    /// The log is cleaned of all.
+    Live,
+    /// A key is put so often, and the log cleaned where it is time for that.
+    Steady,
 }
 
 /// How many bytes an entry has, how many entries a batch, to how many groups they go, and how many
@@ -30,6 +38,10 @@ fn work_of(word: &str) -> Option<Work> {
         "open" => Some(Work::Open),
         "fetch" => Some(Work::Fetch),
         "get" => Some(Work::Get),
+        "compact" => Some(Work::Compact),
+        "dead" => Some(Work::Dead),
+        "live" => Some(Work::Live),
+        "steady" => Some(Work::Steady),
         _ => None,
     }
 }

@@ -94,6 +94,25 @@ fn turn(
     Ok(())
 }
 
+/// Compacts each group up to its last entry, which goes too.
+fn compact(engine: &mut MemoryEngine, groups: u32) -> Result<(), EngineFault> {
+    for group in 0..groups {
+        engine.compact_to(u64::from(group), u64::MAX)?;
+    }
+    Ok(())
+}
+
+/// Compacts and cleans what the task says.
+fn clean(engine: &mut MemoryEngine, task: Task) -> Result<(), EngineFault> {
+    if matches!(task.work, Work::Compact | Work::Dead) {
+        compact(engine, task.groups)?;
+    }
+    if matches!(task.work, Work::Dead | Work::Live) {
+        let _ = engine.clean_append_queue(None)?;
+    }
+    Ok(())
+}
+
 /// The last index of the first group, behind all turns.
 pub fn run<R: Threads + Sync>(
     rt: &R,
@@ -109,6 +128,7 @@ pub fn run<R: Threads + Sync>(
     for round in 0..task.rounds {
         turn(&mut engine, &mut batch, task, round, &entries)?;
     }
+    clean(&mut engine, task)?;
     if opens_again(task.work) {
         let files = match engine.close() {
             Ok(files) => files,

@@ -32,7 +32,13 @@ pub enum Told {
     /// How many blocks were read from files.
     Blocks(u64),
     Removed(u64),
+    /// A cleaning told these groups to compact, and whether a file went.
+    Cleaned(Vec<u64>, bool),
     Fused,
+    /// The append queue was cleaned.
+    Tidied,
+    /// The rewrite queue was written anew.
+    Rewritten,
     /// A batch could not be made, and no call was.
     NoBatch,
     Refused(EngineFault),
@@ -77,8 +83,56 @@ fn names<F: CrashFiles + Drop>(
     }
 }
 
-/// What a step asks of the whole engine: `groups`, `empty`, `span`, `used`, `blocks`,
-/// `path`, `names:DIRECTORY`, `sync`, or `fuse:CALL`, from which call on the files refuse.
+/// Cleans a queue: the append queue as far as it goes, or the rewrite queue, which is written anew.
+pub(crate) fn cleaned<F: CrashFiles + Drop>(
+    engine: &mut Engine<F>,
+    queue: LogQueue,
+) -> Result<Told, EngineFault> {
+    match queue {
+        LogQueue::Append => {
+            engine.clean_append_queue(None)?;
+            Ok(Told::Tidied)
+        }
+        LogQueue::Rewrite => {
+            engine.clean_rewrite_queue()?;
+            Ok(Told::Rewritten)
+        }
+    }
+}
+
+/// A cleaning that is refused from this one of its calls on, if it comes so far.
+fn cleaned_until<F: CrashFiles + Drop>(engine: &mut Engine<F>, queue: LogQueue, call: u64) -> Told {
+    engine.set_fuse(Some(call));
+    // The steps behind it show what is left, whatever it answers.
+    let _ = cleaned(engine, queue);
+    engine.set_fuse(None);
+    Told::Fused
+}
+
+/// The numbers of a queue's first file and of its last one.
+fn span_of<F: CrashFiles + Drop>(engine: &Engine<F>, queue: LogQueue) -> Told {
+    let (first, last) = engine.file_span(queue);
+    Told::Files(first, last)
+}
+
+/// What a step cleans: `tidy` the append queue, `tidies:CALL` until so many calls; `anew` and
+/// `anews:CALL` the rewrite queue, which is written anew.
+fn clean<F: CrashFiles + Drop>(
+    engine: &mut Engine<F>,
+    parts: &[&str],
+) -> Result<Option<Told>, EngineFault> {
+    Ok(Some(match parts {
+        ["tidy"] => cleaned(engine, LogQueue::Append)?,
+        ["tidies", call] => cleaned_until(engine, LogQueue::Append, number(call)),
+        ["anew"] => cleaned(engine, LogQueue::Rewrite)?,
+        ["anews", call] => cleaned_until(engine, LogQueue::Rewrite, number(call)),
+        _ => return Ok(None),
+    }))
+}
+
+/// What a step asks of the whole engine: `groups`, `empty`, `span`, `rewrites`, the span of the
+/// rewrite queue, `used`, `blocks`, `path`, `names:DIRECTORY`, `sync`, or `fuse:CALL`, from which
+/// call on the files refuse.
 fn ask<F: CrashFiles + Drop>(
     engine: &mut Engine<F>,
     alloc: Global,
@@ -87,10 +141,8 @@ fn ask<F: CrashFiles + Drop>(
     Ok(Some(match parts {
         ["groups"] => Told::Groups(engine.raft_groups()?),
         ["empty"] => Told::Empty(engine.is_empty()?),
-        ["span"] => {
-            let (first, last) = engine.file_span(LogQueue::Append);
-            Told::Files(first, last)
-        }
+        ["span"] => span_of(engine, LogQueue::Append),
+        ["rewrites"] => span_of(engine, LogQueue::Rewrite),
         ["used"] => Told::Bytes(engine.get_used_size()),
         ["blocks"] => Told::Blocks(engine.block_reads()),
         ["path"] => Told::Path(String::from_str(alloc, engine.path())?),
@@ -159,6 +211,9 @@ fn step<F: CrashFiles + Drop>(
         return Ok(told);
     }
     if let Some(told) = read(engine, alloc, &parts)? {
+        return Ok(told);
+    }
+    if let Some(told) = clean(engine, &parts)? {
         return Ok(told);
     }
     Ok(write(engine, alloc, word))

@@ -9,6 +9,7 @@ mod found;
 mod logs;
 mod messages;
 mod patient;
+mod purging;
 mod reopening;
 mod rows;
 mod scans;

@@ -68,7 +68,10 @@ pub(crate) fn closed(engine: Engine<MemoryFileSystem>) -> MemoryFileSystem {
 
 /// The files of an engine after a stop: handed back by `close` where the word is `closed`, and by
 /// `abandon` before a crash.
-fn stopped(engine: Engine<MemoryFileSystem>, how: &str) -> Result<MemoryFileSystem, EngineFault> {
+pub(crate) fn stopped(
+    engine: Engine<MemoryFileSystem>,
+    how: &str,
+) -> Result<MemoryFileSystem, EngineFault> {
     let files = match how {
         "closed" => closed(engine),
         _ => engine.abandon(),

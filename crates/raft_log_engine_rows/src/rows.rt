@@ -6,11 +6,12 @@ use crate::damage::{Harm, harmed};
 use crate::found::{littered, many_groups, spilled, unread};
 use crate::logs::{crash, genuine, refused_openings};
 use crate::patient::keeps_told;
+use crate::purging::expired;
 use crate::reopening::{config_of, reopened, run_of};
 use crate::stops::{Plan, closes_of, first_stops, stops_of};
 use raft_log_engine::{Engine, EngineFault};
 use raft_log_files::{Error, FileSystem, IoFault, MemoryFileSystem};
-use raft_log_records::Version;
+use raft_log_records::{LogQueue, Version};
 use raft_rows::{Answer, Rows, number};
 use std::alloc::Global;
 
@@ -92,7 +93,18 @@ fn stop_row(alloc: Global, words: &[&str]) -> Option<Answer> {
             plan.space = Some(number(space));
             Answer::shown(alloc, &first_stops(alloc, plan, number(calls)))
         }
-        ["cleans", plan @ ..] => Answer::shown(alloc, &cleanings_of(alloc, plan_of(plan)?)),
+        ["cleans", plan @ ..] => {
+            Answer::shown(
+                alloc,
+                &cleanings_of(alloc, plan_of(plan)?, LogQueue::Append),
+            )
+        }
+        ["rewrites", plan @ ..] => {
+            Answer::shown(
+                alloc,
+                &cleanings_of(alloc, plan_of(plan)?, LogQueue::Rewrite),
+            )
+        }
         ["closes", plan @ ..] => Answer::shown(alloc, &closes_of(alloc, plan_of(plan)?)),
         _ => log_row(alloc, words)?,
     })
@@ -123,6 +135,10 @@ fn found_row(alloc: Global, words: &[&str]) -> Option<Answer> {
         }
         ["unread", target_size, count] => {
             Answer::shown(alloc, &unread(alloc, number(target_size), number(count)))
+        }
+        ["expired", target_size, threshold, steps @ ..] => {
+            let (target_size, threshold) = (number(target_size), number(threshold));
+            Answer::shown(alloc, &expired(alloc, target_size, threshold, steps))
         }
         ["groups", how, target_size, len] => {
             let (target_size, len) = (number(target_size), number(len));

@@ -110,6 +110,10 @@ parts_unmarked : {E : Type 0} (parts : List (List (Item E))) → AreUnmarked par
 parts_unmarked [] u = refl
 parts_unmarked (part ∷ parts) u = marks_join part (all_of parts) u.0 (parts_unmarked parts u.1)
 
+-- what is written in some steps has no mark of an atomic group
+pub has_no_mark : {E : Type 0} (content : Content E) (traces others : Traces) (items : List (Item E)) → HasSteps content traces [] others items → mark_of items ≡ None
+has_no_mark content traces others items s = ap mark_of s.1 ∙ parts_unmarked s.0 (steps_unmarked content traces others s.0 s.2)
+
 pub batches_of_steps_keep_cleanable : {E : Type 0} → BatchesOfStepsKeepCleanable E
 batches_of_steps_keep_cleanable {E} traces others account records items content bs k s =
     let parts = s.0 in

@@ -22,6 +22,10 @@ pub if_not_first : (a b c : Bool) → a ≡ false → c ≡ false → c ≡ (a &
 if_not_first true b c e h = absurd cc
 if_not_first false b c e h = h
 
+plain_may_come : (last : Option (Option ℕ)) → MayCome last None
+plain_may_come None = tt
+plain_may_come (Some begun) = tt
+
 module _ {E : Type 0} where
   one_behind : (begun : Option ℕ) (records : List (List (Item E))) (items : List (Item E)) → StandBehind begun records → MayCome (last_open (Some begun) records) (mark_of items)
       → StandBehind begun (records ++ items ∷ [])
@@ -36,6 +40,11 @@ module _ {E : Type 0} where
   one_comes : (records : List (List (Item E))) (items : List (Item E)) → StandTogether records → MayCome (last_open None records) (mark_of items) → StandTogether (records ++ items ∷ [])
   one_comes [] items h m = tt
   one_comes (first ∷ records) items h m = one_behind (left_open (mark_of first)) records items h m
+
+  -- one that has no mark
+  pub plain_comes : (records : List (List (Item E))) (items : List (Item E)) → StandTogether records → mark_of items ≡ None → StandTogether (records ++ items ∷ [])
+  plain_comes records items h none =
+      one_comes records items h (subst (λ (m : Option (ℕ × AtomicGroupStatus)). MayCome (last_open None records) m) (sym none) (plain_may_come (last_open None records)))
 
   one_came : (records : List (List (Item E))) (items : List (Item E)) → StandTogether (records ++ items ∷ []) → StandTogether records × MayCome (last_open None records) (mark_of items)
   one_came [] items h = (tt, tt)

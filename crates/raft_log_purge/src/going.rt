@@ -6,6 +6,7 @@ ghost use Rattle.raft_log_pipe.specs.Caused.{IsPurgeFault};
 ghost use Rattle.raft_log_pipe.specs.Others.{KeepsOthers};
 ghost use Rattle.raft_log_pipe.specs.Pipe.{IsPipe, first_of};
 ghost use Rattle.raft_log_pipes.specs.Calls.{IsPurgeOf};
+ghost use Rattle.raft_log_pipes.specs.Kept.{KeepSettings};
 ghost use Rattle.raft_log_pipes.specs.Pipes.{ArePipes, IsAsBefore, pipe_of};
 ghost use Rattle.raft_log_records.specs.declared.file_id.LogQueue.TheVariants.{Append, Rewrite};
 ghost use Rattle.raft_log_traces.specs.Files.{IsKeptFrom, KeepsFrom};
@@ -59,6 +60,7 @@ pub fn let_go<F: FileSystem>(
     ensures call { (seq : ℕ) × (first_of (pipe_of pipes.old Append) < seq → MayGoBefore (traces_in traces.now) barrier seq)
         × IsPurgeOf (pipe_of pipes.old Append) (F.disk files.old) (pipe_of pipes.new Append) (F.disk files.new) seq result
         × IfErr result (λ e. IsPurgeFault (pipe_of pipes.old Append) (F.disk files.old) seq (F.meter files.old) (F.meter files.new) e) }
+    ensures set { KeepSettings pipes.old pipes.new }
     ensures both { ArePipes pipes.old (F.disk files.old) → ArePipes pipes.new (F.disk files.new) }
     ensures others { KeepsOthers Append (F.disk files.old) (F.disk files.new) }
     ensures other { IsAsBefore (pipe_of pipes.old Rewrite) (F.disk files.old) (pipe_of pipes.new Rewrite) (F.disk files.new) }

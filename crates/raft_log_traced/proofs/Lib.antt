@@ -3,3 +3,4 @@ pub mod TraceLemmas
 pub mod OpenedLemmas
 pub mod ReplayedLemmas
 pub mod MarkedLemmas
+pub mod PartedLemmas

@@ -1,5 +1,5 @@
 -- Memtables with traces, of the batches that an opening finds.
-use Rattle.std.specs.Prelude.{◌≡◌, ℕ, Bool, false, List, [], ◌∷◌, map, Option, Some, None}
+use Rattle.std.specs.Prelude.{◌≡◌, ℕ, Bool, false, List, [], ◌∷◌, ◌++◌, map, Option, Some, None}
 use Rattle.std.specs.List.{AllByRecursion, list_any}
 use Rattle.raft_log_records.specs.declared.item.EntryIndex.{EntryIndex}
 use Rattle.raft_log_records.specs.declared.file_id.FileBlockHandle.{FileBlockHandle}
@@ -10,6 +10,7 @@ use Rattle.raft_log_records.specs.Spelling.{holds_mark}
 use Rattle.raft_log_covers.specs.Kept.{Traces, new_trace, traces_after}
 use Rattle.raft_log_covers.specs.Queues.{Filed}
 use Rattle.raft_log_memtables.specs.MemTable.{items_in}
+use Rattle.raft_log_purge.specs.Together.{Tells}
 use Rattle.raft_log_recovery.specs.Replay.{Placed}
 use Rattle.raft_log_replay.specs.Batches.{HasReplayed}
 use Rattle.raft_log_traces.specs.Alike.{AreAlike}
@@ -34,12 +35,22 @@ is_marked_in Rewrite items = false
 abbrev pub any_marked : List Placed → Bool
 any_marked placed = list_any (λ p. is_marked_in p.handle.id.queue p.items) placed
 
--- the tables have replayed just these batches, the traces have those of the append queue, and it is noted whether one of those is
--- marked
+-- of these batches those of the rewrite queue
+abbrev pub if_rewrite : LogQueue → List (Item EntryIndex) → List (List (Item EntryIndex))
+if_rewrite Append items = []
+if_rewrite Rewrite items = items ∷ []
+
+abbrev pub rewrites_in : List Placed → List (List (Item EntryIndex))
+rewrites_in [] = []
+rewrites_in (p ∷ ps) = if_rewrite p.handle.id.queue p.items ++ rewrites_in ps
+
+-- the tables have replayed just these batches, and the traces have those of the append queue. It is noted whether one of those is
+-- marked, and whether the records of each atomic group in the rewrite queue stand together
 pub record IsReplayedTraced (machine : TracedReplay) (placed : List Placed) : Type 0 where
   pub tables : HasReplayed machine.replayed placed
   pub traces : AreAlike (traces_over placed (λ group. new_trace)) (traces_in machine.traces)
   pub marked : machine.has_marked ≡ any_marked placed
+  pub together : Tells machine.together (rewrites_in placed)
 
 -- the append file that the place of an entry says. None: it lies in the rewrite queue, or nowhere
 abbrev pub file_on : LogQueue → ℕ → Option ℕ

@@ -1,6 +1,6 @@
 //! Memtables with the traces of their groups.
 
-ghost use Rattle.std.specs.Prelude.{◌≡◌, ◌++◌, ℕ, List, None, false, IfOk, OnOk};
+ghost use Rattle.std.specs.Prelude.{◌≡◌, ◌↔◌, ◌++◌, ℕ, List, None, false, IfOk, OnOk};
 ghost use Rattle.raft_log_covers.specs.Cells.{AreUnmarked};
 ghost use Rattle.raft_log_covers.specs.Kept.{new_trace, traces_after};
 ghost use Rattle.raft_log_covers.specs.Queues.{FilesRise, batches_of};
@@ -10,6 +10,7 @@ ghost use Rattle.raft_log_memtables.specs.Content.{after_batch, nothing, reach_a
 ghost use Rattle.raft_log_memtables.specs.MemTable.{batch_items};
 ghost use Rattle.raft_log_memtables.specs.MemTables.{content_in, reach_in};
 ghost use Rattle.raft_log_records.specs.Item.{items_of};
+ghost use Rattle.raft_log_purge.specs.Anew.{StandTogether};
 ghost use Rattle.raft_log_recovery.specs.Replay.{Placed};
 ghost use Rattle.raft_log_records.specs.declared.file_id.LogQueue.TheVariants.{Append, Rewrite};
 ghost use Rattle.raft_log_replay.specs.Batches.{content_over, reach_over, records_in};
@@ -23,6 +24,7 @@ use crate::opened::{set_entries, set_removals};
 use crate::places::set_places;
 use raft_log_files::Error;
 use raft_log_memtables::MemTables;
+use raft_log_purge::Together;
 use raft_log_records::{FileBlockHandle, FileSeq, LogItem, LogItemBatch, LogQueue};
 use raft_log_recovery::{NewMachine, ReplayMachine};
 use raft_log_replay::ReplayedTables;
@@ -39,6 +41,9 @@ pub struct TracedTables {
     /// A batch of the append queue that an opening replayed belongs to an atomic group. So the traces
     /// may tell what never counted, and nothing is to be cleaned by them.
     pub has_marked: bool,
+    /// Records of an atomic group stood apart in the rewrite queue that an opening replayed. So that
+    /// queue isn't to be written anew: while its first records go, others could count again.
+    pub is_parted: bool,
 }
 
 impl TracedTables {
@@ -48,11 +53,13 @@ impl TracedTables {
         ensures reach { (group : ℕ) → reach_in result.tables group ≡ None }
         ensures traces { (group : ℕ) → traces_in result.traces group ≡ new_trace }
         ensures marked { result.has_marked ≡ false }
+        ensures parted { result.is_parted ≡ false }
     {
         TracedTables {
             tables: MemTables::new(alloc),
             traces: GroupTraces::new(alloc),
             has_marked: false,
+            is_parted: false,
         }
     }
 
@@ -63,6 +70,7 @@ impl TracedTables {
         ensures reach { OnOk result (reach_in self.new.tables ≡ reach_after_batch (batch_items handle batch) (reach_in self.old.tables)) }
         ensures traces { OnOk result (AreAlike (traces_after handle.id.seq (items_of batch.items.items) (traces_in self.old.traces)) (traces_in self.new.traces)) }
         ensures marked { self.new.has_marked ≡ self.old.has_marked }
+        ensures parted { self.new.is_parted ≡ self.old.is_parted }
     {
         self.traces.apply(handle.id.seq, &batch.items)?;
         self.tables.apply(batch, handle)
@@ -75,6 +83,7 @@ impl TracedTables {
         ensures reach { reach_in self.new.tables ≡ reach_in self.old.tables }
         ensures traces { self.new.traces ≡ self.old.traces }
         ensures marked { self.new.has_marked ≡ self.old.has_marked }
+        ensures parted { self.new.is_parted ≡ self.old.is_parted }
     {
         set_places(&mut self.tables, items, handle);
     }
@@ -87,6 +96,8 @@ pub struct TracedReplay {
     pub(crate) traces: GroupTraces,
     /// A batch of the append queue belongs to an atomic group.
     pub(crate) has_marked: bool,
+    /// Whether records of atomic groups stand together, of the rewrite queue.
+    pub(crate) together: Together,
 }
 
 impl ReplayMachine for TracedReplay {
@@ -100,7 +111,7 @@ impl ReplayMachine for TracedReplay {
                 self.has_marked = with_marks(self.has_marked, &batch.items);
                 self.traces.apply(handle.id.seq, &batch.items)?
             }
-            LogQueue::Rewrite => {}
+            LogQueue::Rewrite => self.together.add(&batch.items),
         }
         self.replayed.replay(batch, handle)
     }
@@ -112,6 +123,7 @@ impl NewMachine for TracedReplay {
             replayed: ReplayedTables::new_machine(alloc),
             traces: GroupTraces::new(alloc),
             has_marked: false,
+            together: Together::new(),
         }
     }
 }
@@ -131,8 +143,11 @@ impl TracedReplay {
         ensures marked { (placed : List Placed) → IsReplayedTraced self placed → IfOk result (λ log. log.has_marked ≡ any_marked placed) }
         ensures unmarked { (rewrites : List Placed) (appends : List Placed) → IsReplayedTraced self (rewrites ++ appends) → AreOf Append appends
             → IfOk result (λ log. log.has_marked ≡ false → AreUnmarked (batches_of (filed_in appends))) }
+        ensures together { (rewrites : List Placed) (appends : List Placed) → IsReplayedTraced self (rewrites ++ appends) → AreOf Rewrite rewrites → AreOf Append appends
+            → IfOk result (λ log. (log.is_parted ≡ false) ↔ StandTogether (records_in rewrites)) }
     {
         let has_marked = self.has_marked;
+        let is_parted = !self.together.stand();
         let tables = self.replayed.finish();
         let mut traces = self.traces;
         set_removals(&mut traces, first)?;
@@ -141,6 +156,7 @@ impl TracedReplay {
             tables,
             traces,
             has_marked,
+            is_parted,
         })
     }
 }

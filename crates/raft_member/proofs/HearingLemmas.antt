@@ -1,6 +1,6 @@
 -- What a leader hears by a message, at the end of its event.
 use Rattle.std.specs.Prelude.{◌≡◌, ℕ, IfOk, Option, Some, Result, Ok, Err}
-use Rattle.std.proofs.Common.{ap, sym, subst, ◌∙◌}
+use Rattle.std.proofs.Common.{ap, refl, sym, subst, ◌∙◌}
 use Rattle.raft_leaders.specs.Leader.{LeaderValue}
 use Rattle.raft_engine.specs.Standing.{EffectiveMembership}
 use Rattle.raft_messages.specs.declared.message.Message.{Message}
@@ -13,6 +13,13 @@ use Rattle.raft_member.specs.declared.member.Member.{Member}
 
 abbrev pub LeaderOf : Type 0
 LeaderOf = LeaderValue ℕ EffectiveMembership
+
+-- an engine that goes back leaves the member's id
+pub left_id : {X : Type 0} (end : Ended X) (engine : Engine) (before : Member) → (left_by end engine before).id ≡ before.id
+left_id (ended.Done messages) engine before = refl
+left_id (ended.Refused why) engine before = refl
+left_id ended.Stopped engine before = refl
+left_id ended.Skipped engine before = refl
 
 module _ {X : Type 0} (m : Message X) (sent : Option ℕ) where
   -- an event that is over has heard

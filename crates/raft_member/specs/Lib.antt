@@ -3,3 +3,4 @@ pub mod Running
 pub mod Opening
 pub mod Ready
 pub mod Hearing
+pub mod Faults

@@ -9,7 +9,9 @@ ghost use Rattle.raft_group_step.specs.declared.group_call.GroupCall.TheVariants
 ghost use Rattle.raft_engine.specs.Events.{HasTaken, MayTake};
 ghost use Rattle.raft_group_step.specs.GroupStep.{group_step};
 ghost use Rattle.raft_group_step.specs.Refusal.{refusal_of};
+ghost use Rattle.std.specs.Result.{result_err};
 ghost use Rattle.raft_group_storage.specs.Keeping.{KeepsAll, KeepsOthers};
+ghost use Rattle.raft_member.specs.Faults.{fault_met_by_event};
 ghost use Rattle.raft_member.specs.Member.{HasBrokenOff, HasEnded, IsBuilt, IsDown, IsIdle, IsLawful, IsUp};
 ghost use Rattle.raft_member.specs.Running.{EndsTo, HasHalted, RunsTo};
 ghost use Rattle.raft_member.specs.declared.member.Ended.TheVariants.{Skipped};
@@ -18,11 +20,12 @@ use crate::facts::{facts_of, membership_in_force};
 use crate::member::{Broken, ByteGroup, Ended, Member};
 use raft_conditions::{GroupCommand, changed_membership};
 use raft_engine::Engine;
-use raft_executor::meta_of;
+use raft_executor::{SendingTimes, meta_of};
 use raft_group_step::GroupCall;
 use raft_group_storage::GroupStorage;
 use raft_state::{BasicNode, Bytes, ChangeMembers, Membership};
 use std::alloc::{AllocError, Global};
+use std::mem;
 
 // The leader takes what the change makes of the membership in force.
 fn change(
@@ -137,6 +140,7 @@ impl Member {
             → MayTake self.old.id engine.old s (Call TriggerSnapshot at)
             → OnErr result (HasHalted (S.shows storage.new group) s.stored (group_step self.old.id s (Call TriggerSnapshot at)) self.new) }
         ensures others { KeepsOthers (S.shows storage.old) (S.shows storage.new) group }
+        ensures met { S.meets storage.old storage.new (result_err result) }
     {
         if !engine.trigger_snapshot()? {
             return self.end_without_snapshot(alloc, engine, moment, stop, storage, group);
@@ -172,6 +176,7 @@ impl Member {
             → MayTake self.old.id engine.old s (Call call.now at)
             → OnErr result (HasHalted (S.shows storage.new group) s.stored (group_step self.old.id s (Call call.now at)) self.new) }
         ensures others { KeepsOthers (S.shows storage.old) (S.shows storage.new) group }
+        ensures met { S.meets storage.old storage.new (result_err result) }
     {
         if matches!(call, GroupCall::TriggerSnapshot) {
             return self.snapshot_call(alloc, engine, built, moment, stop, storage, group);
@@ -203,6 +208,7 @@ impl Member {
         ensures taken { (s : GroupState) → s.stored.present ≡ true → IsIdle self.old.id engine.old s → IsLawful self.old.id s
             → OnErr result (refusal_of self.old.id s (Call call.now now) ≡ None) }
         ensures others { KeepsOthers (S.shows storage.old) (S.shows storage.new) group }
+        ensures met { S.meets storage.old storage.new (fault_met_by_event result) }
     {
         let refusal = match facts_of(self.id, engine).call_refusal(alloc, call, now) {
             Ok(refusal) => refusal,
@@ -246,12 +252,26 @@ impl Member {
             → OnErr result (refusal_of self.old.id s (Call call.now now) ≡ None) }
         ensures down { self.old.engine ≡ None → (result ≡ Ok Skipped) × (self.new ≡ self.old) × KeepsAll (S.shows storage.old) (S.shows storage.new) }
         ensures others { KeepsOthers (S.shows storage.old) (S.shows storage.new) group }
+        ensures met { S.meets storage.old storage.new (fault_met_by_event result) }
     {
-        let Some(mut engine) = self.engine.take() else {
+        let Some(engine) = &mut self.engine else {
             return Ok(Ended::Skipped);
         };
-        let ended = self.call(alloc, &mut engine, call, built, now, stop, storage, group)?;
-        self.put_back(engine, &ended);
-        Ok(ended)
+        let mut beside = Member {
+            id: self.id,
+            engine: None,
+            moment: self.moment,
+            sendings: mem::replace(&mut self.sendings, SendingTimes::none()),
+        };
+        match beside.call(alloc, engine, call, built, now, stop, storage, group) {
+            Ok(ended) => {
+                self.join(&mut beside, &ended);
+                Ok(ended)
+            }
+            Err(met) => {
+                *self = beside;
+                Err(met)
+            }
+        }
     }
 }

@@ -1,14 +1,15 @@
 //! The end of an event: what the queue asks for is stored and sent.
-ghost use Rattle.std.specs.Prelude.{◌≡◌, ℕ, IfOk, None, OnErr, OnOk};
+ghost use Rattle.std.specs.Prelude.{◌≡◌, ℕ, IfOk, None, OnErr, OnOk, Some};
 ghost use Rattle.std.specs.Option.{option_copied};
 ghost use Rattle.raft_group_step.specs.StoredGroup.{StoredGroup as Stored};
 ghost use Rattle.raft_group_step.specs.GroupState.{GroupState};
 ghost use Rattle.raft_group_step.specs.StepResult.{StepResult};
 ghost use Rattle.raft_engine.specs.Standing.{IsStateOf};
 ghost use Rattle.raft_executor.specs.SendingTimes.{sent_at, time_after};
+ghost use Rattle.std.specs.Result.{result_err};
 ghost use Rattle.raft_group_storage.specs.Keeping.{KeepsOthers};
 ghost use Rattle.raft_member.specs.Hearing.{IsOver};
-ghost use Rattle.raft_member.specs.Member.{IsDown, IsIdle};
+ghost use Rattle.raft_member.specs.Member.{Engine as Running, IsDown, IsIdle};
 ghost use Rattle.raft_member.specs.Running.{HasHalted, IsRun, RunsTo, left_by};
 
 use crate::member::{ByteGroup, Ended, Member};
@@ -16,6 +17,7 @@ use raft_engine::Engine;
 use raft_executor::{Sender, messages, store_first};
 use raft_group_storage::GroupStorage;
 use std::alloc::Global;
+use std::mem;
 
 // The engine has nothing left to do.
 fn come_to_rest(engine: &mut Engine<ByteGroup>)
@@ -45,6 +47,20 @@ impl Member {
         }
     }
 
+    // What an event left of the member beside its engine, which stayed in its place, goes back, unless
+    // the event stopped: then the engine goes, too. So an engine isn't moved for an event.
+    pub(crate) fn join<X>(&mut self, beside: &mut Member, ended: &Ended<X>)
+        ensures { (e : Running) → self.old.engine ≡ Some e → beside.old.id ≡ self.old.id → self.new ≡ left_by ended.now e beside.old }
+    {
+        match ended {
+            Ended::Done(_) | Ended::Refused(_) => {
+                self.moment = beside.moment;
+                mem::swap(&mut self.sendings, &mut beside.sendings);
+            }
+            Ended::Stopped | Ended::Skipped => mem::swap(self, beside),
+        }
+    }
+
     // The step is done: what the queue asks for is stored in its order, and sent. The snapshot is
     // the one that a command stores. It is noted to which peers requests leave at this moment.
     pub(crate) fn end_taken<S: GroupStorage>(
@@ -69,6 +85,7 @@ impl Member {
             → IsRun S.stands self.old.id engine.old old r (option_copied snapshot.entry) moment
             → OnErr result (HasHalted (S.shows storage.new group) old r self.new) }
         ensures others { KeepsOthers (S.shows storage.old) (S.shows storage.new) group }
+        ensures met { S.meets storage.old storage.new (result_err result) }
     {
         store_first(&engine.output, stop, snapshot, storage, group)?;
         if stop.is_some() {
@@ -108,6 +125,7 @@ impl Member {
             → IsRun S.stands self.old.id engine.old old r None moment
             → OnErr result (HasHalted (S.shows storage.new group) old r self.new) }
         ensures others { KeepsOthers (S.shows storage.old) (S.shows storage.new) group }
+        ensures met { S.meets storage.old storage.new (result_err result) }
     {
         // Its type says which snapshots there would be.
         let none: Option<S::Snapshot> = None;

@@ -3,6 +3,7 @@ ghost use Rattle.std.specs.Prelude.{◌≡◌, ℕ, IfOk, OnOk, OnErr, None, Som
 ghost use Rattle.std.specs.Option.{option_copied};
 ghost use Rattle.raft_group_step.specs.StoredGroup.{StoredGroup as Stored, MakeGroup, after_storing};
 ghost use Rattle.raft_group_step.specs.GroupState.{GroupState, is_leader, no_group, state_of};
+ghost use Rattle.std.specs.Result.{result_err};
 ghost use Rattle.raft_group_storage.specs.Keeping.{KeepsOthers};
 ghost use Rattle.raft_member.specs.Member.{IsIdle, IsUp};
 
@@ -82,6 +83,7 @@ impl Member {
         ensures err { (kept : Stored) → S.is_well storage.old → S.shows storage.old group (kept ∷ [])
             → OnErr result (S.shows storage.new group (kept ∷ after_storing MakeGroup kept ∷ [])) }
         ensures others { KeepsOthers (S.shows storage.old) (S.shows storage.new) group }
+        ensures met { S.meets storage.old storage.new (result_err result) }
     {
         let engine = Engine::for_new_group(alloc, id)?;
         storage.make_group(group)?;

@@ -11,6 +11,7 @@ ghost use Rattle.raft_messages.specs.declared.message.MessageBody.TheVariants.{S
 ghost use Rattle.raft_group_step.specs.GroupStep.{group_step};
 ghost use Rattle.raft_group_step.specs.Message.{AppendReply, AppendRequest, Message as Said, SnapshotReply, SnapshotRequest};
 ghost use Rattle.raft_executor.specs.Said.{Says};
+ghost use Rattle.std.specs.Result.{result_err};
 ghost use Rattle.raft_group_storage.specs.Keeping.{KeepsAll, KeepsOthers};
 ghost use Rattle.raft_executor.specs.SendingTimes.{sent_at};
 ghost use Rattle.raft_member.specs.Hearing.{HasHeard, HearsBy};
@@ -22,11 +23,12 @@ use crate::facts::facts_of;
 use crate::member::{ByteGroup, Ended, Member};
 use raft_conditions::{GroupFacts, Parties, Refusal};
 use raft_engine::{AppendEntriesRequest, Caller, Engine, RequestId};
-use raft_executor::{caller_and_answer, caller_id, meta_of};
+use raft_executor::{SendingTimes, caller_and_answer, caller_id, meta_of};
 use raft_group_storage::GroupStorage;
 use raft_messages::{AppendFields, Message, MessageBody, ReplyFields, copies_of, last_sent};
 use raft_state::Vote;
 use std::alloc::{AllocError, Global};
+use std::mem;
 
 // Why the message is refused, if it is.
 fn message_refusal<S: GroupStorage>(
@@ -190,6 +192,7 @@ impl Member {
             → OnErr result (HasHalted (S.shows storage.new group) s.stored
             (group_step self.old.id s (received self.old.id message.now.sender (body_as (λ x. y) message.now.body) at)) self.new) }
         ensures others { KeepsOthers (S.shows storage.old) (S.shows storage.new) group }
+        ensures met { S.meets storage.old storage.new (result_err result) }
     {
         if let MessageBody::SnapshotRequest { vote, id, snapshot } = &message.body {
             let caller = (message.sender, *vote, *id);
@@ -222,6 +225,7 @@ impl Member {
             → IsDown (S.is_well storage.old) (S.shows storage.old group) self.old s.stored → self.old.moment ≡ s.now → IsIdle self.old.id engine.old s → IsLawful self.old.id s
             → OnErr result (HasStopped (S.shows storage.new group) self.old.id s (Receive message.now.sender (message_as (λ x. y) message.now) now) self.new) }
         ensures others { KeepsOthers (S.shows storage.old) (S.shows storage.new) group }
+        ensures met { S.meets storage.old storage.new (result_err result) }
     {
         match message_refusal::<S>(&facts_of(self.id, engine), message, now) {
             Some(refusal) => Ok(Ended::Refused(refusal)),
@@ -256,12 +260,26 @@ impl Member {
             → OnErr result (HasStopped (S.shows storage.new group) self.old.id s (Receive message.now.sender m now) self.new) }
         ensures down { self.old.engine ≡ None → (result ≡ Ok Skipped) × (self.new ≡ self.old) × KeepsAll (S.shows storage.old) (S.shows storage.new) }
         ensures others { KeepsOthers (S.shows storage.old) (S.shows storage.new) group }
+        ensures met { S.meets storage.old storage.new (result_err result) }
     {
-        let Some(mut engine) = self.engine.take() else {
+        let Some(engine) = &mut self.engine else {
             return Ok(Ended::Skipped);
         };
-        let ended = self.message(alloc, &mut engine, message, now, stop, storage, group)?;
-        self.put_back(engine, &ended);
-        Ok(ended)
+        let mut beside = Member {
+            id: self.id,
+            engine: None,
+            moment: self.moment,
+            sendings: mem::replace(&mut self.sendings, SendingTimes::none()),
+        };
+        match beside.message(alloc, engine, message, now, stop, storage, group) {
+            Ok(ended) => {
+                self.join(&mut beside, &ended);
+                Ok(ended)
+            }
+            Err(met) => {
+                *self = beside;
+                Err(met)
+            }
+        }
     }
 }

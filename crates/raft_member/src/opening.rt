@@ -8,6 +8,7 @@ ghost use Rattle.raft_group_step.specs.GroupState.{state_of};
 ghost use Rattle.raft_group_step.specs.GroupEvent.{Open};
 ghost use Rattle.raft_group_step.specs.GroupStep.{finished};
 ghost use Rattle.raft_group_step.specs.Opening.{is_joined_to, resume_lead};
+ghost use Rattle.std.specs.Result.{result_err};
 ghost use Rattle.raft_group_storage.specs.Keeping.{KeepsAll, KeepsOthers};
 ghost use Rattle.raft_group_storage.specs.Loaded.{IsHead, IsLoaded};
 ghost use Rattle.raft_known_state.specs.KnownState.{IsPlaced, meta_of};
@@ -155,6 +156,7 @@ impl Member {
             → OnErr result (HasHalted (S.shows storage.new group) (opened st).state.stored
             (finished self.old.id None (resume_lead self.old.id (unchanged (opened st).state))) self.new) }
         ensures others { KeepsOthers (S.shows storage.old) (S.shows storage.new) group }
+        ensures met { S.meets storage.old storage.new (result_err result) }
     {
         let Some(mut engine) = opened_engine(alloc, self.id, loaded)? else {
             return Ok(Ended::Skipped);
@@ -184,6 +186,7 @@ impl Member {
             → OnErr result (HasStopped (S.shows storage.new group) self.old.id (state_of st) Open self.new) }
         ensures up { is_some self.old.engine ≡ true → (result ≡ Ok Skipped) × (self.new ≡ self.old) × KeepsAll (S.shows storage.old) (S.shows storage.new) }
         ensures others { KeepsOthers (S.shows storage.old) (S.shows storage.new) group }
+        ensures met { S.meets storage.old storage.new (result_err result) }
     {
         if self.engine.is_some() {
             return Ok(Ended::Skipped);

@@ -14,7 +14,8 @@ ghost use Rattle.raft_member.specs.Member.{IsBuilt, IsLawful};
 ghost use Rattle.raft_applier.specs.Building.{HasItsMembership};
 ghost use Rattle.raft_applier.specs.Following.{AreOfMachine, IsStep};
 ghost use Rattle.raft_step_laws.specs.Tokens.{brought};
-ghost use Rattle.raft_framed_groups.specs.Answers.{IsTurnedAway, Stands};
+ghost use Rattle.raft_framed_groups.specs.Answers.{IsTurnedAway, Stands, fault_met_by_answer};
+ghost use Rattle.raft_node_faults.specs.Fault.{fault_met_by_node, storage_fault_of};
 ghost use Rattle.raft_node.specs.Asking.{IsJudged, is_not_begun, is_unjudged};
 ghost use Rattle.raft_node.specs.Ending.{HasEnded, IsEvent, StaysElse};
 ghost use Rattle.raft_node.specs.Running.{RunsAt};
@@ -108,6 +109,8 @@ impl<M: StateMachine, S: GroupStorage<Snapshot = SnapshotBytes>> Node<M, S> {
         ensures ended { (s : GroupState) → token_of_call call.now ≡ option_to_list token → IsAt M.rules (value_of M.state S.is_well S.shows self.old) group s → IsLawful self.old.groups.id s
             → HasEnded M.rules S.stands (value_of M.state S.is_well S.shows self.new) group s (Call call.now now) (Err result) }
         ensures elsewhere { StaysElse {T = Outcome} (value_of M.state S.is_well S.shows self.old) (value_of M.state S.is_well S.shows self.new) group (Err result) }
+        ensures fault { storage_fault_of result ≡ None }
+        ensures storage { self.new.groups.storage ≡ self.old.groups.storage }
     {
         match self.judged(group, call, now) {
             Judgement::Refused(why) => fault_of_refusal(why),
@@ -126,8 +129,9 @@ impl<M: StateMachine, S: GroupStorage<Snapshot = SnapshotBytes>> Node<M, S> {
         call: &GroupCommand,
         now: u64,
     ) -> Result<Outcome, Fault<S::Fault>>
-        ensures { token_of_call call.now ≡ [] → (call.now ≡ TriggerSnapshot → ⊥)
+        ensures event { token_of_call call.now ≡ [] → (call.now ≡ TriggerSnapshot → ⊥)
             → IsEvent M.rules S.stands (self.new ≡ self.old) (value_of M.state S.is_well S.shows self.old) (value_of M.state S.is_well S.shows self.new) group (Call call.now now) result }
+        ensures met { S.meets self.old.groups.storage self.new.groups.storage (fault_met_by_node result) }
     {
         let answered = ask_group(self.alloc, &mut self.groups, group, call, None, now);
         self.settle(group, answered)
@@ -180,6 +184,7 @@ impl<M: StateMachine, S: GroupStorage<Snapshot = SnapshotBytes>> Node<M, S> {
         ensures elsewhere { StaysElse (value_of M.state S.is_well S.shows self.old) (value_of M.state S.is_well S.shows self.new) group result }
         ensures passed { IsPassedOn ⊤ answered result }
         ensures away { IsTurnedAway answered → IsPassedOn (self.new ≡ self.old) answered result }
+        ensures met { (start : S) → S.meets start self.old.groups.storage (fault_met_by_answer answered) → S.meets start self.new.groups.storage (fault_met_by_node result) }
     {
         if !is_not_begun(&answered) {
             return self.settle(group, answered);
@@ -197,8 +202,9 @@ impl<M: StateMachine, S: GroupStorage<Snapshot = SnapshotBytes>> Node<M, S> {
         token: u64,
         now: u64,
     ) -> Result<Outcome, Fault<S::Fault>>
-        ensures { token_of_call call.now ≡ token ∷ []
+        ensures event { token_of_call call.now ≡ token ∷ []
             → IsEvent M.rules S.stands (self.new ≡ self.old) (value_of M.state S.is_well S.shows self.old) (value_of M.state S.is_well S.shows self.new) group (Call call.now now) result }
+        ensures met { S.meets self.old.groups.storage self.new.groups.storage (fault_met_by_node result) }
     {
         if self.groups.has_failed {
             return Err(Fault::Failed);
@@ -227,7 +233,9 @@ impl<M: StateMachine, S: GroupStorage<Snapshot = SnapshotBytes>> Node<M, S> {
 
     // A snapshot of what is applied is stored.
     pub(crate) fn ask_snapshot(&mut self, group: u64, now: u64) -> Result<Outcome, Fault<S::Fault>>
-        ensures { IsEvent M.rules S.stands (self.new ≡ self.old) (value_of M.state S.is_well S.shows self.old) (value_of M.state S.is_well S.shows self.new) group (Call TriggerSnapshot now) result }
+        ensures event { IsEvent M.rules S.stands (self.new ≡ self.old) (value_of M.state S.is_well S.shows self.old) (value_of M.state S.is_well S.shows self.new)
+            group (Call TriggerSnapshot now) result }
+        ensures met { S.meets self.old.groups.storage self.new.groups.storage (fault_met_by_node result) }
     {
         if self.groups.has_failed {
             return Err(Fault::Failed);

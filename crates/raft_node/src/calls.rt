@@ -9,6 +9,7 @@ ghost use Rattle.raft_group_step.specs.declared.group_call.GroupCall.TheVariants
 ghost use Rattle.raft_machines.specs.MembershipFault.{membership_fault_of};
 ghost use Rattle.raft_laws.specs.GroupWorld.{Absent};
 ghost use Rattle.raft_framed_groups.specs.Answers.{Stands};
+ghost use Rattle.raft_node_faults.specs.Fault.{fault_met_by_node, storage_fault_of};
 ghost use Rattle.raft_node_faults.specs.declared.fault.Cause.TheVariants.{Memory};
 ghost use Rattle.raft_node_faults.specs.declared.fault.Fault.TheVariants.{Failed, GroupExists};
 ghost use Rattle.raft_node.specs.Adding.{IsAdded, IsRefusedOrStops};
@@ -56,6 +57,7 @@ impl<M: StateMachine, S: GroupStorage<Snapshot = SnapshotBytes>> Node<M, S> {
         ensures elsewhere { StaysElse (value_of M.state S.is_well S.shows self.old) (value_of M.state S.is_well S.shows self.new) group result }
         ensures refused { IsTurnedDown result → StaysAll (value_of M.state S.is_well S.shows self.old) (value_of M.state S.is_well S.shows self.new) }
         ensures names { NamesWaiting (value_of M.state S.is_well S.shows self.old).running result }
+        ensures met { S.meets self.old.groups.storage self.new.groups.storage (fault_met_by_node result) }
     {
         if let Err(fault) = self.groups.add_group(group) {
             return Err(self.groups_fault(fault));
@@ -76,6 +78,7 @@ impl<M: StateMachine, S: GroupStorage<Snapshot = SnapshotBytes>> Node<M, S> {
         ensures event { IsEvent M.rules S.stands (self.new ≡ self.old) (value_of M.state S.is_well S.shows self.old)
             (value_of M.state S.is_well S.shows self.new) group (Call call.now now) (without_its_why call.now result) }
         ensures why { IfErr result (HasItsWhy call.now) }
+        ensures met { S.meets self.old.groups.storage self.new.groups.storage (fault_met_by_node result) }
     {
         match call {
             GroupCall::Propose { token, .. } | GroupCall::ChangeMembership { token, .. } => {
@@ -96,6 +99,7 @@ impl<M: StateMachine, S: GroupStorage<Snapshot = SnapshotBytes>> Node<M, S> {
     pub fn fail(&mut self) -> Fault<S::Fault>
         ensures why { IsStoppedBy Memory result }
         ensures told { IsTold ⊥ (value_of M.state S.is_well S.shows self.old) (value_of M.state S.is_well S.shows self.new) result }
+        ensures met { S.meets self.old.groups.storage self.new.groups.storage (storage_fault_of result) }
     {
         self.stop(Cause::Memory)
     }
@@ -112,6 +116,7 @@ impl<M: StateMachine, S: GroupStorage<Snapshot = SnapshotBytes>> Node<M, S> {
         ensures event { IsEvent M.rules S.stands (self.new ≡ self.old) (value_of M.state S.is_well S.shows self.old)
             (value_of M.state S.is_well S.shows self.new) group (Call (Initialize membership) now) (without_why result) }
         ensures why { IfErr result (HasWhy (membership_fault_of membership)) }
+        ensures met { S.meets self.old.groups.storage self.new.groups.storage (fault_met_by_node result) }
     {
         let why = membership_fault(&membership);
         match self.ask(group, &GroupCall::Initialize { membership }, now) {
@@ -130,8 +135,9 @@ impl<M: StateMachine, S: GroupStorage<Snapshot = SnapshotBytes>> Node<M, S> {
         token: u64,
         now: u64,
     ) -> Result<Outcome, Fault<S::Fault>>
-        ensures { IsEvent M.rules S.stands (self.new ≡ self.old) (value_of M.state S.is_well S.shows self.old)
+        ensures event { IsEvent M.rules S.stands (self.new ≡ self.old) (value_of M.state S.is_well S.shows self.old)
             (value_of M.state S.is_well S.shows self.new) group (Call (Propose command token) now) result }
+        ensures met { S.meets self.old.groups.storage self.new.groups.storage (fault_met_by_node result) }
     {
         let call = GroupCall::Propose { command, token };
         self.ask_with_token(group, &call, token, now)
@@ -140,8 +146,9 @@ impl<M: StateMachine, S: GroupStorage<Snapshot = SnapshotBytes>> Node<M, S> {
     /// The node stands for election (own). Refused as `Failed` (11), `UnknownGroup` (2),
     /// `NumberAtEnd` (10), `NotVoter` (5).
     pub fn elect(&mut self, group: u64, now: u64) -> Result<Outcome, Fault<S::Fault>>
-        ensures { IsEvent M.rules S.stands (self.new ≡ self.old) (value_of M.state S.is_well S.shows self.old)
+        ensures event { IsEvent M.rules S.stands (self.new ≡ self.old) (value_of M.state S.is_well S.shows self.old)
             (value_of M.state S.is_well S.shows self.new) group (Call Elect now) result }
+        ensures met { S.meets self.old.groups.storage self.new.groups.storage (fault_met_by_node result) }
     {
         self.ask(group, &GroupCall::Elect, now)
     }
@@ -149,8 +156,9 @@ impl<M: StateMachine, S: GroupStorage<Snapshot = SnapshotBytes>> Node<M, S> {
     /// The group's leader says to each other node that it leads on (own). Refused as `Failed` (11),
     /// `UnknownGroup` (2), `NumberAtEnd` (10), `NotLeader` (1).
     pub fn heartbeat(&mut self, group: u64, now: u64) -> Result<Outcome, Fault<S::Fault>>
-        ensures { IsEvent M.rules S.stands (self.new ≡ self.old) (value_of M.state S.is_well S.shows self.old)
+        ensures event { IsEvent M.rules S.stands (self.new ≡ self.old) (value_of M.state S.is_well S.shows self.old)
             (value_of M.state S.is_well S.shows self.new) group (Call Heartbeat now) result }
+        ensures met { S.meets self.old.groups.storage self.new.groups.storage (fault_met_by_node result) }
     {
         self.ask(group, &GroupCall::Heartbeat, now)
     }
@@ -158,8 +166,9 @@ impl<M: StateMachine, S: GroupStorage<Snapshot = SnapshotBytes>> Node<M, S> {
     /// The outstanding request of the group's leader to the peer counts as failed (own). Refused as
     /// `heartbeat` is.
     pub fn lost(&mut self, group: u64, peer: u64, now: u64) -> Result<Outcome, Fault<S::Fault>>
-        ensures { IsEvent M.rules S.stands (self.new ≡ self.old) (value_of M.state S.is_well S.shows self.old)
+        ensures event { IsEvent M.rules S.stands (self.new ≡ self.old) (value_of M.state S.is_well S.shows self.old)
             (value_of M.state S.is_well S.shows self.new) group (Call (Lost peer) now) result }
+        ensures met { S.meets self.old.groups.storage self.new.groups.storage (fault_met_by_node result) }
     {
         self.ask(group, &GroupCall::Lost { peer }, now)
     }
@@ -167,8 +176,9 @@ impl<M: StateMachine, S: GroupStorage<Snapshot = SnapshotBytes>> Node<M, S> {
     /// A snapshot of what is applied is stored, if that is past the last one (own). Refused as
     /// `Failed` (11), `UnknownGroup` (2), `NumberAtEnd` (10).
     pub fn trigger_snapshot(&mut self, group: u64, now: u64) -> Result<Outcome, Fault<S::Fault>>
-        ensures { IsEvent M.rules S.stands (self.new ≡ self.old) (value_of M.state S.is_well S.shows self.old)
+        ensures event { IsEvent M.rules S.stands (self.new ≡ self.old) (value_of M.state S.is_well S.shows self.old)
             (value_of M.state S.is_well S.shows self.new) group (Call TriggerSnapshot now) result }
+        ensures met { S.meets self.old.groups.storage self.new.groups.storage (fault_met_by_node result) }
     {
         self.ask_snapshot(group, now)
     }
@@ -181,8 +191,9 @@ impl<M: StateMachine, S: GroupStorage<Snapshot = SnapshotBytes>> Node<M, S> {
         place: u64,
         now: u64,
     ) -> Result<Outcome, Fault<S::Fault>>
-        ensures { IsEvent M.rules S.stands (self.new ≡ self.old) (value_of M.state S.is_well S.shows self.old)
+        ensures event { IsEvent M.rules S.stands (self.new ≡ self.old) (value_of M.state S.is_well S.shows self.old)
             (value_of M.state S.is_well S.shows self.new) group (Call (TriggerPurge place) now) result }
+        ensures met { S.meets self.old.groups.storage self.new.groups.storage (fault_met_by_node result) }
     {
         self.ask(group, &GroupCall::TriggerPurge { place }, now)
     }
@@ -197,8 +208,9 @@ impl<M: StateMachine, S: GroupStorage<Snapshot = SnapshotBytes>> Node<M, S> {
         token: u64,
         now: u64,
     ) -> Result<Outcome, Fault<S::Fault>>
-        ensures { IsEvent M.rules S.stands (self.new ≡ self.old) (value_of M.state S.is_well S.shows self.old)
+        ensures event { IsEvent M.rules S.stands (self.new ≡ self.old) (value_of M.state S.is_well S.shows self.old)
             (value_of M.state S.is_well S.shows self.new) group (Call (ChangeMembership change token) now) result }
+        ensures met { S.meets self.old.groups.storage self.new.groups.storage (fault_met_by_node result) }
     {
         let call = GroupCall::ChangeMembership { change, token };
         self.ask_with_token(group, &call, token, now)

@@ -31,6 +31,7 @@ impl<M: StateMachine, S: GroupStorage<Snapshot = SnapshotBytes> + CleanStorage> 
         ensures stopped { self.old.groups.has_failed ≡ false
             → OnErr result ((self.new.groups ≡ record self.old.groups { storage = self.new.groups.storage; has_failed = true })
             × (self.new.machines ≡ None) × (self.new.feeders ≡ self.old.feeders)) }
+        ensures met { OnOk result (S.GroupStorage.meets self.old.groups.storage self.new.groups.storage None) }
     {
         if self.groups.has_failed {
             return Err(Fault::Failed);

@@ -1,10 +1,12 @@
 //! Pieces of the peers' streams.
-ghost use Rattle.std.specs.Prelude.{◌≡◌, ◌≤◌, ◌<◌, ◌++◌, [], ℕ, List, Err, IfOk, IfSome, OnErr, OnOk, None, Some, length, is_some, true, false, vec_len, vec_capacity};
+ghost use Rattle.std.specs.Prelude.{◌≡◌, ◌≤◌, ◌<◌, ◌++◌, [], ℕ, List, length, true, false, vec_len, vec_capacity};
+ghost use Rattle.std.specs.Prelude.{Err, IfOk, IfSome, OnErr, OnOk, None, Some, is_some, option_and_then};
 ghost use Rattle.std.specs.Ordering.{nat_cmp};
 ghost use Rattle.std.specs.BTreeMap.{get};
 ghost use Rattle.raft_wire.specs.Frames.{FitsFrame, spelled_frame};
 ghost use Rattle.raft_wire.specs.Stream.{Answers, IsSpelledSo, front, fresh};
 ghost use Rattle.raft_wire.specs.declared.frame.Frame.{Frame as Spoken};
+ghost use Rattle.raft_node_faults.specs.Fault.{fault_met_by_node, storage_fault_of};
 ghost use Rattle.raft_node_faults.specs.declared.fault.Fault.TheVariants.{Failed};
 ghost use Rattle.raft_node.specs.Feeding.{FeedsPart, FeedsTo, FeedsWhole, IsFrame, TakesNext, so_far};
 ghost use Rattle.raft_node.specs.Standing.{feeding_of, value_of};
@@ -86,8 +88,9 @@ struct Step<F> {
 impl<M: StateMachine, S: GroupStorage<Snapshot = SnapshotBytes>> Node<M, S> {
     // The peer's frame comes to its group.
     fn take_frame(&mut self, peer: u64, frame: &Frame, now: u64) -> Result<Outcome, Fault<S::Fault>>
-        ensures { IsFrame M.rules S.stands (self.new ≡ self.old) (value_of M.state S.is_well S.shows self.old)
+        ensures frame { IsFrame M.rules S.stands (self.new ≡ self.old) (value_of M.state S.is_well S.shows self.old)
             (value_of M.state S.is_well S.shows self.new) peer frame.now now result }
+        ensures met { S.meets self.old.groups.storage self.new.groups.storage (fault_met_by_node result) }
     {
         let answered = receive_frame(self.alloc, &mut self.groups, peer, frame, now);
         self.settle(frame.group, answered)
@@ -107,6 +110,7 @@ impl<M: StateMachine, S: GroupStorage<Snapshot = SnapshotBytes>> Node<M, S> {
         ensures progress { IfOk result.outcome (λ came. IfSome came (λ o. 0 < result.used)) }
         ensures items { outcomes.new.items ≡ outcomes.old.items }
         ensures room { OnOk result.outcome (vec_len outcomes.new < vec_capacity outcomes.new) }
+        ensures met { S.meets self.old.groups.storage self.new.groups.storage (fault_met_by_node result.outcome) }
     {
         if make_room(self.alloc, &mut self.feeders, outcomes, peer).is_err() {
             return Step {
@@ -139,7 +143,8 @@ impl<M: StateMachine, S: GroupStorage<Snapshot = SnapshotBytes>> Node<M, S> {
 
     // The frames of a piece come to their groups, at a node that hasn't failed.
     fn feed_frames(&mut self, peer: u64, piece: &[u8], now: u64) -> Fed<S::Fault>
-        ensures { FeedsTo (value_of M.state S.is_well S.shows) M.rules S.stands peer now result.outcomes.items result.fault self.old self.new piece.now result.used }
+        ensures frames { FeedsTo (value_of M.state S.is_well S.shows) M.rules S.stands peer now result.outcomes.items result.fault self.old self.new piece.now result.used }
+        ensures met { S.meets self.old.groups.storage self.new.groups.storage (option_and_then storage_fault_of result.fault) }
     {
         let mut outcomes = Vec::new(self.alloc);
         let mut used = 0;
@@ -191,6 +196,7 @@ impl<M: StateMachine, S: GroupStorage<Snapshot = SnapshotBytes>> Node<M, S> {
             → 0 < length more → so_far (value_of M.state S.is_well S.shows self.old) peer piece.now ++ more ≡ spelled_frame frame
             → FeedsPart M.rules S.stands (value_of M.state S.is_well S.shows self.old) (value_of M.state S.is_well S.shows self.new) peer now
             piece.now result.outcomes.items result.fault result.used }
+        ensures met { S.meets self.old.groups.storage self.new.groups.storage (option_and_then storage_fault_of result.fault) }
     {
         if self.groups.has_failed {
             return Fed {

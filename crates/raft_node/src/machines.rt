@@ -27,7 +27,7 @@ pub(crate) struct Machines<M: StateMachine> {
 }
 
 impl<M: StateMachine> Machines<M> {
-    ghost use Rattle.std.specs.Prelude.{◌<◌, ◌^◌, ◌++◌, ◌∷◌, [], ℕ, IfOk, OnOk, OnErr, IfNone, IfSome, Some, None, is_some};
+    ghost use Rattle.std.specs.Prelude.{◌<◌, ◌^◌, ◌++◌, ◌∷◌, [], ℕ, IfOk, OnOk, OnErr, IfNone, IfSome, Some, None, is_some, option_and_then};
     ghost use Rattle.std.specs.Option.{option_copied};
     ghost use Rattle.std.specs.Ordering.{nat_cmp};
     ghost use Rattle.std.specs.BTreeMap.{get};
@@ -35,6 +35,7 @@ impl<M: StateMachine> Machines<M> {
     ghost use Rattle.raft_group_step.specs.GroupState.{GroupState, Untold as Waiting};
     ghost use Rattle.raft_group_step.specs.GroupEvent.{GroupEvent};
     ghost use Rattle.raft_group_step.specs.GroupStep.{group_step};
+    ghost use Rattle.std.specs.Result.{result_err};
     ghost use Rattle.raft_group_storage.specs.Keeping.{KeepsAll};
     ghost use Rattle.raft_member.specs.Member.{IsIdle, IsUp};
     ghost use Rattle.raft_machines.specs.Telling.{untold_of};
@@ -132,6 +133,7 @@ impl<M: StateMachine> Machines<M> {
         ensures others { (other : ℕ) → (other ≡ group → ⊥) → get nat_cmp self.new.appliers other ≡ get nat_cmp self.old.appliers other }
         ensures kept { KeepsAll (S.shows storage.old) (S.shows storage.new) }
         ensures absent { S.is_well storage.old → IfNone result (S.is_well storage.new) }
+        ensures met { S.meets storage.old storage.new (option_and_then result_err result) }
     {
         match self.appliers.get_mut(&group) {
             Some(applier) => Some(applier.catch_up(alloc, member, storage, group)),

@@ -29,6 +29,7 @@ impl<M: StateMachine, S: GroupStorage<Snapshot = SnapshotBytes>> Node<M, S> {
     ghost use Rattle.std.specs.Option.{option_copied};
     ghost use Rattle.std.specs.Ordering.{nat_cmp};
     ghost use Rattle.std.specs.BTreeMap.{get};
+    ghost use Rattle.raft_node_faults.specs.Fault.{storage_fault_in, storage_fault_of};
     ghost use Rattle.raft_node_faults.specs.declared.fault.Cause.TheVariants.{Memory};
     ghost use Rattle.raft_node.specs.Settling.{IsStopFor};
     ghost use Rattle.raft_node.specs.Standing.{applier_in, one_more_in, running_in};
@@ -95,6 +96,7 @@ impl<M: StateMachine, S: GroupStorage<Snapshot = SnapshotBytes>> Node<M, S> {
         ensures groups { self.new.groups ≡ record self.old.groups { has_failed = true } }
         ensures feeders { self.new.feeders ≡ self.old.feeders }
         ensures no_machines { self.new.machines ≡ None }
+        ensures fault { storage_fault_of result ≡ storage_fault_in cause }
     {
         self.groups.has_failed = true;
         let unknown = match self.machines.take() {
@@ -110,6 +112,7 @@ impl<M: StateMachine, S: GroupStorage<Snapshot = SnapshotBytes>> Node<M, S> {
         ensures stops { IsStopFor Memory (λ other. waiting_of (running_in M.state self.old.machines other) ++ one_more_in self.old.machines other group token) result }
         ensures groups { self.new.groups ≡ record self.old.groups { has_failed = true } }
         ensures feeders { self.new.feeders ≡ self.old.feeders }
+        ensures fault { storage_fault_of result ≡ None }
     {
         self.groups.has_failed = true;
         let unknown = match self.machines.take() {

@@ -1,5 +1,5 @@
 //! A node is opened over its storage.
-ghost use Rattle.std.specs.Prelude.{◌≡◌, [], ℕ, IfErr, IfOk, None, OnErr, OnOk, false, true};
+ghost use Rattle.std.specs.Prelude.{◌≡◌, [], ℕ, IfErr, IfOk, MatchResult, None, OnErr, OnOk, false, true};
 ghost use Rattle.std.specs.List.{AllZip};
 ghost use Rattle.std.specs.Ordering.{nat_cmp};
 ghost use Rattle.std.specs.BTreeMap.{get};
@@ -7,12 +7,14 @@ ghost use Rattle.raft_group_step.specs.StoredGroup.{StoredGroup as Stored};
 ghost use Rattle.raft_group_step.specs.GroupEvent.{Open};
 ghost use Rattle.raft_group_step.specs.GroupState.{state_of};
 ghost use Rattle.raft_group_step.specs.GroupStep.{group_step};
+ghost use Rattle.std.specs.Result.{result_err};
 ghost use Rattle.raft_group_storage.specs.Keeping.{KeepsAll, KeepsOthers};
 ghost use Rattle.raft_laws.specs.GroupWorld.{Up};
 ghost use Rattle.raft_applier.specs.Following.{AreOfMachine, HasWholeSnapshot};
 ghost use Rattle.raft_framed_groups.specs.Answers.{Stands};
 ghost use Rattle.raft_framed_groups.specs.Frames.{IsFramed};
 ghost use Rattle.raft_wire.specs.Stream.{fresh};
+ghost use Rattle.raft_node_faults.specs.Fault.{fault_met_by_node, storage_fault_of};
 ghost use Rattle.raft_node.specs.Opening.{AreThere, HasNotOpened, HasOpened, IsBegun, IsReopened, IsUntouched, Keeps, OpensGroup, StopsNaming};
 ghost use Rattle.raft_node.specs.Settling.{IsTold};
 ghost use Rattle.raft_node.specs.Standing.{IsAt, feeding_of, running_in, value_of};
@@ -59,6 +61,7 @@ impl<M: StateMachine, S: GroupStorage<Snapshot = SnapshotBytes>> Node<M, S> {
         ensures kept { KeepsAll (S.shows self.old.groups.storage) (S.shows self.new.groups.storage) }
         ensures others { (other : ℕ) → (other ≡ group → ⊥) → running_in M.state self.new.machines other ≡ running_in M.state self.old.machines other }
         ensures err { (other : ℕ) → OnErr result (running_in M.state self.new.machines other ≡ running_in M.state self.old.machines other) }
+        ensures met { S.meets self.old.groups.storage self.new.groups.storage (result_err result) }
     {
         let Some(member) = self.groups.members.get(&group) else {
             return Ok(());
@@ -82,6 +85,8 @@ impl<M: StateMachine, S: GroupStorage<Snapshot = SnapshotBytes>> Node<M, S> {
         ensures id { self.new.groups.id ≡ self.old.groups.id }
         ensures names { IfErr result (StopsNaming (value_of M.state S.is_well S.shows self.old).running) }
         ensures err { IfErr result (IsTold (self.new ≡ self.old) (value_of M.state S.is_well S.shows self.old) (value_of M.state S.is_well S.shows self.new)) }
+        ensures cause { fault_met_by_node result ≡ None }
+        ensures storage { self.new.groups.storage ≡ self.old.groups.storage }
     {
         match frames_of(self.alloc, group, messages) {
             Ok(frames) => Ok(Outcome {
@@ -105,6 +110,7 @@ impl<M: StateMachine, S: GroupStorage<Snapshot = SnapshotBytes>> Node<M, S> {
         ensures id { self.new.groups.id ≡ self.old.groups.id }
         ensures going { OnOk result (self.new.groups.has_failed ≡ self.old.groups.has_failed) }
         ensures feeders { OnOk result (self.new.feeders ≡ self.old.feeders) }
+        ensures met { S.meets self.old.groups.storage self.new.groups.storage (fault_met_by_node result) }
     {
         let messages = match self.groups.open_group(group) {
             Ok(Ended::Done(messages)) => messages,
@@ -138,6 +144,7 @@ impl<M: StateMachine, S: GroupStorage<Snapshot = SnapshotBytes>> Node<M, S> {
         ensures id { self.new.groups.id ≡ self.old.groups.id }
         ensures going { OnOk result (self.new.groups.has_failed ≡ self.old.groups.has_failed) }
         ensures feeders { OnOk result (self.new.feeders ≡ self.old.feeders) }
+        ensures met { S.meets self.old.groups.storage self.new.groups.storage (fault_met_by_node result) }
     {
         let mut outcomes = Vec::new(self.alloc);
         for group in groups {
@@ -161,6 +168,7 @@ impl<M: StateMachine, S: GroupStorage<Snapshot = SnapshotBytes>> Node<M, S> {
         ensures id { self.new.groups.id ≡ self.old.groups.id }
         ensures going { OnOk result (self.new.groups.has_failed ≡ self.old.groups.has_failed) }
         ensures feeders { OnOk result (self.new.feeders ≡ self.old.feeders) }
+        ensures met { S.meets self.old.groups.storage self.new.groups.storage (fault_met_by_node result) }
     {
         if self.make_machines().is_err() {
             return Err(self.stop(Cause::Memory));
@@ -182,6 +190,7 @@ impl<M: StateMachine, S: GroupStorage<Snapshot = SnapshotBytes>> Node<M, S> {
         ensures id { IfOk result (λ o. o.node.groups.id ≡ id) }
         ensures going { IfOk result (λ o. o.node.groups.has_failed ≡ false) }
         ensures streams { (peer : ℕ) → IfOk result (λ o. feeding_of (get nat_cmp o.node.feeders peer) ≡ fresh) }
+        ensures met { MatchResult result (λ o. S.meets storage o.node.groups.storage None) (λ n. S.meets storage n.storage (storage_fault_of n.fault)) }
     {
         let mut node: Node<M, S> = Node::without_groups(alloc, id, storage);
         match node.open_groups() {

@@ -1,10 +1,14 @@
 //! What a group's answer becomes at its node.
-ghost use Rattle.std.specs.Prelude.{◌≡◌, ℕ, IfOk, OnErr, OnOk, IfNone, IfSome, IsSomeAnd, None};
+ghost use Rattle.std.specs.Prelude.{◌≡◌, ℕ, IfOk, OnErr, OnOk, IfNone, IfSome, IsSomeAnd, None, option_and_then};
 ghost use Rattle.raft_group_step.specs.GroupEvent.{GroupEvent};
 ghost use Rattle.raft_group_step.specs.GroupState.{GroupState};
 ghost use Rattle.raft_group_step.specs.Refusal.{refusal_of};
+ghost use Rattle.std.specs.Result.{result_err};
 ghost use Rattle.raft_group_storage.specs.Keeping.{KeepsAll};
+ghost use Rattle.raft_groups.specs.Faults.{fault_of_groups};
+ghost use Rattle.raft_framed_groups.specs.Answers.{fault_met_by_answer, fault_of_answer};
 ghost use Rattle.raft_applier.specs.Following.{AreOfMachine, IsStep};
+ghost use Rattle.raft_node_faults.specs.Fault.{fault_met_by_node, storage_fault_of};
 ghost use Rattle.raft_node.specs.Ending.{HasEnded, StaysElse};
 ghost use Rattle.raft_node.specs.Settling.{FollowsTo, HasCaughtUp, IsAnswerFault, IsAnswered, IsBehind, IsGroupsFault, IsPassedOn, IsStoppedBy, IsStreamFault, IsTold, cause_of_unsent};
 ghost use Rattle.raft_node.specs.Standing.{running_in, value_of};
@@ -27,6 +31,8 @@ impl<M: StateMachine, S: GroupStorage<Snapshot = SnapshotBytes>> Node<M, S> {
         ensures why { IsGroupsFault fault result }
         ensures told { IsTold (self.new ≡ self.old) (value_of M.state S.is_well S.shows self.old)
             (value_of M.state S.is_well S.shows self.new) result }
+        ensures cause { storage_fault_of result ≡ fault_of_groups fault }
+        ensures storage { self.new.groups.storage ≡ self.old.groups.storage }
     {
         match fault {
             GroupsFault::Failed => Fault::Failed,
@@ -41,6 +47,8 @@ impl<M: StateMachine, S: GroupStorage<Snapshot = SnapshotBytes>> Node<M, S> {
         ensures why { IsStreamFault error result }
         ensures told { IsTold (self.new ≡ self.old) (value_of M.state S.is_well S.shows self.old)
             (value_of M.state S.is_well S.shows self.new) result }
+        ensures cause { storage_fault_of result ≡ None }
+        ensures storage { self.new.groups.storage ≡ self.old.groups.storage }
     {
         match error {
             FrameError::Memory => self.stop(Cause::Memory),
@@ -53,6 +61,8 @@ impl<M: StateMachine, S: GroupStorage<Snapshot = SnapshotBytes>> Node<M, S> {
         ensures why { IsStoppedBy (cause_of_unsent error) result }
         ensures told { IsTold (self.new ≡ self.old) (value_of M.state S.is_well S.shows self.old)
             (value_of M.state S.is_well S.shows self.new) result }
+        ensures cause { storage_fault_of result ≡ None }
+        ensures storage { self.new.groups.storage ≡ self.old.groups.storage }
     {
         match error {
             FrameError::Memory => self.stop(Cause::Memory),
@@ -65,6 +75,8 @@ impl<M: StateMachine, S: GroupStorage<Snapshot = SnapshotBytes>> Node<M, S> {
         ensures why { IsAnswerFault error result }
         ensures told { IsTold (self.new ≡ self.old) (value_of M.state S.is_well S.shows self.old)
             (value_of M.state S.is_well S.shows self.new) result }
+        ensures cause { storage_fault_of result ≡ fault_of_answer error }
+        ensures storage { self.new.groups.storage ≡ self.old.groups.storage }
     {
         match error {
             AnswerError::Stream(why) => self.stream_fault(why),
@@ -87,6 +99,7 @@ impl<M: StateMachine, S: GroupStorage<Snapshot = SnapshotBytes>> Node<M, S> {
         ensures waiting { IfSome result (λ r. OnErr r
             (waiting_of (running_in M.state self.new.machines group) ≡ waiting_of (running_in M.state self.old.machines group))) }
         ensures absent { S.is_well self.old.groups.storage → IfNone result (S.is_well self.new.groups.storage) }
+        ensures met { S.meets self.old.groups.storage self.new.groups.storage (option_and_then result_err result) }
     {
         let Some(member) = self.groups.members.get(&group) else {
             return None;
@@ -107,6 +120,7 @@ impl<M: StateMachine, S: GroupStorage<Snapshot = SnapshotBytes>> Node<M, S> {
             → IsBehind M.rules (value_of M.state S.is_well S.shows self.old) group s e
             → FollowsTo M.rules (value_of M.state S.is_well S.shows self.old) (value_of M.state S.is_well S.shows self.new) group s e frames.items result }
         ensures elsewhere { StaysElse (value_of M.state S.is_well S.shows self.old) (value_of M.state S.is_well S.shows self.new) group result }
+        ensures met { S.meets self.old.groups.storage self.new.groups.storage (fault_met_by_node result) }
     {
         match self.catch_up(group) {
             Some(Ok(progress)) => Ok(Outcome {
@@ -131,6 +145,7 @@ impl<M: StateMachine, S: GroupStorage<Snapshot = SnapshotBytes>> Node<M, S> {
             → HasEnded M.rules S.stands (value_of M.state S.is_well S.shows self.new) group s e result }
         ensures elsewhere { StaysElse (value_of M.state S.is_well S.shows self.old) (value_of M.state S.is_well S.shows self.new) group result }
         ensures passed { IsPassedOn (self.new ≡ self.old) answered result }
+        ensures met { (start : S) → S.meets start self.old.groups.storage (fault_met_by_answer answered) → S.meets start self.new.groups.storage (fault_met_by_node result) }
     {
         match answered {
             Ok(Framed::Sent(frames)) => self.follow(group, frames),

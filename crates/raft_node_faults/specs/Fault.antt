@@ -1,5 +1,5 @@
 -- The numbers and names of a node's refusals, and which one a group's own becomes.
-use Rattle.std.specs.Prelude.{ℕ, List, None, codes}
+use Rattle.std.specs.Prelude.{ℕ, List, Option, Some, None, Result, Ok, Err, codes}
 use Rattle.raft_conditions.specs.declared.refusal.Refusal.{Refusal}
 use Rattle.raft_conditions.specs.declared.refusal.Refusal.TheVariants as refusal
 use Rattle.raft_member.specs.declared.member.Broken.{Broken}
@@ -65,3 +65,20 @@ module _ {F : Type 0} where
   abbrev pub cause_of : Broken F → Cause F
   cause_of (broken.Unjudged met) = cause.Unjudged
   cause_of (broken.Begun met) = cause.Storage met
+
+  -- the storage's fault that is the cause, if one is
+  abbrev pub storage_fault_in : Cause F → Option F
+  storage_fault_in cause.Memory = None
+  storage_fault_in cause.Unjudged = None
+  storage_fault_in (cause.Storage why) = Some why
+  storage_fault_in (cause.Frame why) = None
+
+  -- of a stop
+  abbrev pub storage_fault_of : Fault F → Option F
+  storage_fault_of (fault.Stopped why unknown) = storage_fault_in why
+  storage_fault_of other = None
+
+  -- none where the call is done
+  abbrev pub fault_met_by_node : {T : Type 0} → Result T (Fault F) → Option F
+  fault_met_by_node (Ok x) = None
+  fault_met_by_node (Err why) = storage_fault_of why

@@ -1,16 +1,16 @@
--- A stream that begins anew leads each group of its node on, and so does a fuse of its files.
+-- A stream that begins anew leads each group of its node on, and so do a cleaning and a fuse of its files.
 use Rattle.std.specs.Prelude.{◌≡◌, ℕ, Bool, true, false, List, refl}
 use Rattle.std.proofs.Common.{inl, inr}
 use Rattle.raft_group_step.specs.GroupState.{GroupState}
 use Rattle.raft_laws.specs.GroupWorld.{NodeState}
-use Rattle.raft_headline.specs.ClusterEvent.{Done, Fuse, Recorded, ResetPeer, silent}
+use Rattle.raft_headline.specs.ClusterEvent.{Clean, Done, Fuse, Recorded, ResetPeer, silent}
 use Rattle.raft_headline.specs.Seen.{Passed, seen_by}
 use Rattle.raft_cluster_laws.specs.Acts.{EventLeads}
 use Rattle.raft_machines.specs.Machine.{MachineRules}
 use Rattle.raft_node.specs.Feeding.{StaysBut, fed_as}
 use Rattle.raft_node.specs.Standing.{NodeValue}
 use Rattle.raft_node_joint.specs.Leading.{StaysInAll, recorded}
-use Rattle.raft_node_joint.specs.Reopening.{FusesLead, ResetsLead, reset_as}
+use Rattle.raft_node_joint.specs.Reopening.{CleaningsLead, FusesLead, ResetsLead, reset_as}
 use Rattle.raft_node_joint.specs.Standing.{IsUpIn, MayBe, MayBeWhen}
 use Rattle.raft_node_joint.proofs.Others.{one_of, passed_leads}
 use Rattle.raft_node_joint.proofs.StatesStay.{but_stays}
@@ -47,7 +47,22 @@ resets_lead rules old new history peer olds same may_be h = record {
   leads = reset_leads rules old history peer h (olds h) (may_be h);
 }
 
--- nor does a group see a fuse of the node's files
+-- nor does a group see a cleaning
+clean_sees_none : (h n : ℕ) (failed : Bool) → seen_by h (recorded n (Clean n) (reset_as failed)) ≡ Passed
+clean_sees_none h n true = refl
+clean_sees_none h n false = refl
+
+pub cleanings_lead : (rules : MachineRules) (old new : NodeValue) → CleaningsLead rules old new
+cleanings_lead rules old new history peer olds same may_be h = record {
+  news = olds h;
+  may_be = streams_stay rules old new peer same h (olds h) (may_be h);
+  leads =
+      let one = one_of rules old h old.groups.has_failed (olds h) (may_be h) in
+      passed_leads rules h old.groups.own (recorded old.groups.own (Clean old.groups.own) (reset_as old.groups.has_failed)) history
+      (clean_sees_none h old.groups.own old.groups.has_failed) (olds h) one.0 one.1;
+}
+
+-- nor a fuse of the node's files
 pub fuses_lead : (rules : MachineRules) (old new : NodeValue) → FusesLead rules old new
 fuses_lead rules old new history peer olds same may_be h = record {
   news = olds h;

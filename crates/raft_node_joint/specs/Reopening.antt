@@ -1,14 +1,14 @@
--- Where an opening, a crash and a stream that begins anew lead the groups of their node.
+-- Where an opening, a crash, a cleaning and a stream that begins anew lead the groups of their node.
 use Rattle.std.specs.Prelude.{◌≡◌, ◌==◌, ℕ, Bool, true, false, List, [], ◌∷◌, map, None, All, Contains}
 use Rattle.std.specs.List.{AllByRecursion, AllZip}
 use Rattle.raft_group_step.specs.GroupEvent.{GroupEvent}
 use Rattle.raft_group_step.specs.GroupState.{no_group}
 use Rattle.raft_group_step.specs.Message.{Message}
 use Rattle.raft_group_step.specs.StoredGroup.{Snapshot, StoredGroup}
-use Rattle.raft_group_storage.specs.Keeping.{Shows}
+use Rattle.raft_group_storage.specs.Keeping.{KeepsAll, Shows}
 use Rattle.raft_messages.specs.declared.memberships.SnapshotBytes.{SnapshotBytes}
 use Rattle.raft_laws.specs.GroupWorld.{Down, NodeState}
-use Rattle.raft_headline.specs.ClusterEvent.{ClusterEvent, ClusterOutcome, Crash, Done, Fuse, Opened, PassedOver, Recorded, Reopen, ResetPeer}
+use Rattle.raft_headline.specs.ClusterEvent.{Clean, ClusterEvent, ClusterOutcome, Crash, Done, Fuse, Opened, PassedOver, Recorded, Reopen, ResetPeer}
 use Rattle.raft_headline.specs.ClusterEvent.{Said, Stopped, Unknown, silent}
 use Rattle.raft_headline.specs.Naming.{names_in}
 use Rattle.raft_headline.specs.Seen.{own_tokens}
@@ -19,6 +19,7 @@ use Rattle.raft_node_faults.specs.declared.fault.Fault.{Fault}
 use Rattle.raft_node_faults.specs.declared.fault.Fault.TheVariants as fault
 use Rattle.raft_node.specs.Feeding.{StaysBut}
 use Rattle.raft_node.specs.Opening.{HasNotOpened, HasOpened, IsReopened, StopsNaming}
+use Rattle.raft_node.specs.Settling.{NamesAll}
 use Rattle.raft_node.specs.Standing.{NodeValue}
 use Rattle.raft_node.specs.declared.outcome.Outcome.{Outcome}
 use Rattle.raft_node_joint.specs.Coming.{ComesTo}
@@ -135,7 +136,7 @@ CrashesLead rules n =
 
 -- ---- a stream that begins anew
 
--- a node that has failed passes that over
+-- a node that has failed passes that over, and so it does a cleaning
 abbrev pub reset_as : Bool → ClusterOutcome
 reset_as true = PassedOver
 reset_as false = Done silent
@@ -146,6 +147,30 @@ ResetsLead rules old new =
     (history : List Recorded) (peer : ℕ) (olds : ℕ → List NodeState)
     → StaysBut old new peer → ((h : ℕ) → MayBe rules old h (olds h))
     → (h : ℕ) → LeadsIn rules history (ResetPeer old.groups.own peer) (reset_as old.groups.has_failed) old new h (olds h)
+
+-- ---- a cleaning of its files
+
+-- no group sees it
+abbrev pub CleaningsLead : MachineRules → NodeValue → NodeValue → Type 0
+CleaningsLead rules old new =
+    (history : List Recorded) (peer : ℕ) (olds : ℕ → List NodeState)
+    → StaysBut old new peer → ((h : ℕ) → MayBe rules old h (olds h))
+    → (h : ℕ) → LeadsIn rules history (Clean old.groups.own) (reset_as old.groups.has_failed) old new h (olds h)
+
+-- the storage failed in it: the node fails, what is stored stays, and all tokens that waited are named
+pub record StopsCleaning {F : Type 0} (old new : NodeValue) (why : Fault F) : Type 0 where
+  pub own : new.groups.own ≡ old.groups.own
+  pub fails : new.groups.has_failed ≡ true
+  pub kept : KeepsAll old.groups.shows new.groups.shows
+  pub names : NamesAll ⊥ old.running why
+
+-- each group sees that its node halted
+abbrev pub StoppedCleaningsLead : {F : Type 0} → MachineRules → NodeValue → NodeValue → Fault F → Type 0
+StoppedCleaningsLead rules old new (fault.Stopped why unknown) =
+    (history : List Recorded) (olds : ℕ → List NodeState)
+    → old.groups.has_failed ≡ false → ((h : ℕ) → MayBe rules old h (olds h)) → StopsCleaning old new (fault.Stopped why unknown)
+    → (h : ℕ) → LeadsIn rules history (Clean old.groups.own) (Stopped (names_in unknown.items)) old new h (olds h)
+StoppedCleaningsLead rules old new other = Unit {0}
 
 -- ---- a fuse of its files
 

@@ -1,11 +1,11 @@
-//! Where an opening, a crash and a stream that begins anew lead the groups of their node.
+//! Where an opening, a crash, a cleaning and a stream that begins anew lead the groups of their node.
 ghost use Rattle.std.specs.Prelude.{ℕ};
 ghost use Rattle.raft_machines.specs.Machine.{MachineRules};
 ghost use Rattle.raft_node.specs.Standing.{value_of};
 ghost use Rattle.raft_node_joint.specs.Reopening.{AbsentGroupsStoreNothing, DownFusesLead, DownNodesAreReopened, FusesLead};
 ghost use Rattle.raft_node_joint.specs.Reopening.{ClosedOpeningsLead, LeftOpeningsLead, OpeningsLead};
 ghost use Rattle.raft_node_joint.specs.Reopening.{CrashesLead, OwnMessages, RefusedOpeningsLead};
-ghost use Rattle.raft_node_joint.specs.Reopening.{ResetsLead, StopsNameNobody};
+ghost use Rattle.raft_node_joint.specs.Reopening.{CleaningsLead, ResetsLead, StoppedCleaningsLead, StopsNameNobody};
 
 use raft_group_storage::GroupStorage;
 use raft_machines::StateMachine;
@@ -59,6 +59,18 @@ pub fn resets_lead_on<M: StateMachine, S: GroupStorage<Snapshot = SnapshotBytes>
     behind: &Node<M, S>,
 )
     ensures { ResetsLead M.rules (value_of M.state S.is_well S.shows before.now) (value_of M.state S.is_well S.shows behind.now) }
+{}
+
+/// A cleaning of a node's files leaves each group in the states in which it may have been, also where
+/// the node has failed and passes it over. Where the storage fails in it each group sees that its node
+/// halted, with no storing command done.
+pub fn cleanings_lead_on<M: StateMachine, S: GroupStorage<Snapshot = SnapshotBytes>>(
+    before: &Node<M, S>,
+    behind: &Node<M, S>,
+    fault: &Fault<S::Fault>,
+)
+    ensures done { CleaningsLead M.rules (value_of M.state S.is_well S.shows before.now) (value_of M.state S.is_well S.shows behind.now) }
+    ensures stopped { StoppedCleaningsLead M.rules (value_of M.state S.is_well S.shows before.now) (value_of M.state S.is_well S.shows behind.now) fault.now }
 {}
 
 /// A fuse of a node's files leaves each group in the states in which it may have been, whether the node

@@ -13,7 +13,7 @@ pub use Rattle.raft_list_facts.specs.Leads.{leading_in}
 use Rattle.raft_list_facts.specs.declared.leading.Leading.{Leading}
 use Rattle.raft_machines.specs.Fold.{fold_of}
 use Rattle.raft_machines.specs.Machine.{MachineRules}
-use Rattle.raft_headline.specs.ClusterEvent.{AddGroup, Ask, ClusterEvent, ClusterOutcome, Crash, Deliver, Done, Fuse, Recorded}
+use Rattle.raft_headline.specs.ClusterEvent.{AddGroup, Ask, Clean, ClusterEvent, ClusterOutcome, Crash, Deliver, Done, Fuse, Recorded}
 use Rattle.raft_headline.specs.ClusterEvent.{Reopen, ResetPeer, Stopped, silent}
 use Rattle.raft_cluster_laws.specs.Acts.{EventLeads}
 use Rattle.raft_cluster_laws.specs.Along.{scene_behind, sent_by}
@@ -27,7 +27,7 @@ use Rattle.raft_cluster_events.specs.Node.{NodeActs}
 use Rattle.raft_cluster_events.specs.States.{NodeStates}
 use Rattle.raft_node_laws.specs.Answered.{Answered, none_of, one_of, opening_of, some_of, stop_behind}
 use Rattle.raft_node_laws.specs.Delivery.{Comes, pieces_from}
-use Rattle.raft_node_laws.specs.Saying.{IsToldAs, SaysCall, SaysOpening, SaysReset, names_of}
+use Rattle.raft_node_laws.specs.Saying.{IsToldAs, SaysCall, SaysCleaning, SaysOpening, SaysReset, names_of}
 
 -- ---- histories
 
@@ -105,6 +105,9 @@ module _ {N : Type 0} (rules : MachineRules) (acts : NodeActs N) (states : NodeS
         → IsTaken (WasSent group number m) (Deliver group number now) group old (some_of answered) mid
     pub resets : (old new : N) (peer : ℕ) (answered : Result (Unit {0}) NodeError) → acts.is_up old ≡ true → acts.resets old peer answered new
         → LeadsOn Anything (ResetPeer (acts.id old) peer) old new (SaysReset (none_of answered))
+    -- the node's files are cleaned
+    pub cleans : (old new : N) (answered : Result (List ℕ) NodeError) → acts.is_up old ≡ true → acts.cleans old answered new
+        → LeadsOn Anything (Clean (acts.id old)) old new (SaysCleaning answered)
     -- whether the node is up or down
     pub fuses : (old new : N) (first_refused : Option ℕ) → acts.fuses old first_refused new
         → LeadsOn Anything (Fuse (acts.id old)) old new (λ o. o ≡ Done silent)

@@ -12,11 +12,11 @@ use Rattle.raft_cluster_events.specs.declared.outcome.EventOutcome.{EventOutcome
 use Rattle.raft_cluster_events.specs.declared.outcome.EventOutcome.TheVariants as outcome
 use Rattle.raft_cluster_events.specs.declared.outcome.GroupOutcome.{GroupOutcome}
 use Rattle.raft_cluster_events.specs.declared.outcome.Recorded.{Recorded}
-use Rattle.raft_headline.specs.ClusterEvent.{AddGroup, Ask, Crash, Deliver, Fuse, Reopen, ResetPeer}
+use Rattle.raft_headline.specs.ClusterEvent.{AddGroup, Ask, Clean, Crash, Deliver, Fuse, Reopen, ResetPeer}
 use Rattle.raft_headline.specs.ClusterEvent.{ClusterEvent as PlainEvent, ClusterOutcome as PlainOutcome, Recorded as PlainRecord}
 use Rattle.raft_headline.specs.ClusterEvent.{Done, Opened, Said, Stopped, TurnedAway, silent}
 use Rattle.raft_cluster_laws.specs.Along.{sent_by}
-use Rattle.raft_node_laws.specs.Saying.{IsToldAs, names_of, outcome_of_refusal}
+use Rattle.raft_node_laws.specs.Saying.{AreRising, IsToldAs, names_of, outcome_of_refusal}
 
 -- ---- events
 
@@ -26,6 +26,7 @@ plain_event (event.AddGroup node group) = AddGroup node group
 plain_event (event.Ask node group call now) = Ask node group call now
 plain_event (event.Deliver group number cuts now) = Deliver group number now
 plain_event (event.ResetPeer node peer) = ResetPeer node peer
+plain_event (event.Clean node) = Clean node
 plain_event (event.Fuse node first_refused) = Fuse node
 plain_event (event.Crash node choice) = Crash node
 plain_event (event.Reopen node workers) = Reopen node
@@ -36,6 +37,7 @@ node_behind before (event.AddGroup node group) = Some node
 node_behind before (event.Ask node group call now) = Some node
 node_behind before (event.Deliver group number cuts now) = option_map (λ (m : Message). m.addressee) (slice_get (sent_by group before) number)
 node_behind before (event.ResetPeer node peer) = Some node
+node_behind before (event.Clean node) = Some node
 node_behind before (event.Fuse node first_refused) = Some node
 node_behind before (event.Crash node choice) = Some node
 node_behind before (event.Reopen node workers) = Some node
@@ -78,12 +80,29 @@ DoneAs before (event.AddGroup node group) parts o = IsDoneAs before group parts 
 DoneAs before (event.Ask node group call now) parts o = IsDoneAs before group parts o
 DoneAs before (event.Deliver group number cuts now) parts o = IsDoneAs before group parts o
 DoneAs before (event.ResetPeer node peer) parts o = IsDoneSilently parts o
+DoneAs before (event.Clean node) parts o = ⊥
 DoneAs before (event.Fuse node first_refused) parts o = IsDoneSilently parts o
 DoneAs before (event.Crash node choice) parts o = IsDoneSilently parts o
 DoneAs before (event.Reopen node workers) parts o = IsOpenedAs before parts o
 
+-- a node was cleaned: its groups are as before, and those that hold old files back rise
+pub record IsCleanedAs (groups : List ℕ) (o : PlainOutcome) : Type 0 where
+  pub rising : AreRising groups
+  pub done : o ≡ Done silent
+
+abbrev pub CleanedAs : ClusterEvent → List ℕ → PlainOutcome → Type 0
+CleanedAs (event.AddGroup node group) groups o = ⊥
+CleanedAs (event.Ask node group call now) groups o = ⊥
+CleanedAs (event.Deliver group number cuts now) groups o = ⊥
+CleanedAs (event.ResetPeer node peer) groups o = ⊥
+CleanedAs (event.Clean node) groups o = IsCleanedAs groups o
+CleanedAs (event.Fuse node first_refused) groups o = ⊥
+CleanedAs (event.Crash node choice) groups o = ⊥
+CleanedAs (event.Reopen node workers) groups o = ⊥
+
 abbrev pub OutcomeAs : List PlainRecord → ClusterEvent → EventOutcome → PlainOutcome → Type 0
 OutcomeAs before happened (outcome.Done parts) o = DoneAs before happened parts o
+OutcomeAs before happened (outcome.Cleaned groups) o = CleanedAs happened groups o
 OutcomeAs before happened (outcome.Refused why) o = outcome_of_refusal why ≡ Some o
 OutcomeAs before happened (outcome.Stopped stop) o = o ≡ Stopped (names_of stop)
 OutcomeAs before happened (outcome.TurnedAway why) o = o ≡ TurnedAway

@@ -21,7 +21,7 @@ use Rattle.raft_cluster_events.specs.declared.outcome.GroupOutcome.{GroupOutcome
 use Rattle.raft_cluster_events.specs.declared.outcome.Recorded.{Recorded}
 use Rattle.raft_cluster_events.specs.declared.outcome.Stop.{Stop}
 use Rattle.raft_cluster_events.specs.declared.outcome.StopCause.TheVariants.{Memory}
-use Rattle.raft_headline.specs.ClusterEvent.{AddGroup, Ask, Crash, Done, TurnedAway, silent}
+use Rattle.raft_headline.specs.ClusterEvent.{AddGroup, Ask, Clean, Crash, Done, TurnedAway, silent}
 use Rattle.raft_headline.specs.ClusterEvent.{ClusterOutcome as PlainOutcome, Recorded as PlainRecord}
 use Rattle.raft_headline.specs.Rows.{at_one}
 use Rattle.raft_cluster_laws.specs.Rows.{a_message, made, nothing}
@@ -75,6 +75,13 @@ plainly_crashed = at_one (Crash 1) (Done silent)
 abbrev pub plainly_spared : PlainRecord
 plainly_spared = at_one (Crash 1) TurnedAway
 
+-- node 1 was cleaned
+abbrev pub cleaned : EventOutcome → Recorded
+cleaned o = record { event = event.Clean 1; outcome = o }
+
+abbrev pub plainly_cleaned : PlainOutcome → PlainRecord
+plainly_cleaned o = at_one (Clean 1) o
+
 -- what it did in a group sent one frame to node 2, by this number
 abbrev pub sent_by_number : (group number : ℕ) → GroupOutcome
 sent_by_number group number = record { group = group; sent = record { peer = 2; number = number } ∷ []; told = []; unknown = [] }
@@ -94,6 +101,7 @@ small_acts = record {
   asks = λ old group call now answered new. Unit {0};
   feeds = λ old peer piece now answered new. Unit {0};
   resets = λ old peer answered new. Unit {0};
+  cleans = λ old answered new. Unit {0};
   fails = λ old stop new. Unit {0};
   fuses = λ old first_refused new. Unit {0};
   crashes = λ old choice new. Unit {0};

@@ -1,6 +1,8 @@
 -- What a node answers, in the plain values of a history.
-use Rattle.std.specs.Prelude.{◌≡◌, ◌⊎◌, ◌==◌, ℕ, true, false, List, [], ◌∷◌, ◌++◌, map, Option, Some, None, Ok, Err}
+use Rattle.std.specs.Prelude.{◌≡◌, ◌⊎◌, ◌==◌, ℕ, true, false, List, [], ◌∷◌, ◌++◌, map, Option, Some, None, Result, Ok, Err}
 use Rattle.std.specs.List.{AllByRecursion, AllZip}
+use Rattle.std.specs.List.Sorted.{IsStrictlySortedBy}
+use Rattle.std.specs.Ordering.{nat_cmp}
 use Rattle.raft_group_step.specs.Message.{Message}
 use Rattle.raft_group_step.specs.StepResult.{BreaksCondition, CommandTooLong, GroupExists, InProgress, MembershipRefused, NotAllowed}
 use Rattle.raft_group_step.specs.StepResult.{NotLeader, NotVoter, NumberAtEnd, UnknownGroup, VoterChange, WrongParty}
@@ -65,6 +67,17 @@ SaysError (error.Stopped stop) outcome = outcome ≡ Stopped (names_of stop)
 abbrev pub SaysReset : Answered → ClusterOutcome → Type 0
 SaysReset (Ok outcomes) o = o ≡ Done silent
 SaysReset (Err error) o = SaysError error o
+
+-- ---- cleanings
+
+-- the groups that hold old files back, each once
+abbrev pub AreRising : List ℕ → Type 0
+AreRising groups = IsStrictlySortedBy nat_cmp groups
+
+-- a node's files were cleaned: nothing is said of any group
+abbrev pub SaysCleaning : Result (List ℕ) NodeError → ClusterOutcome → Type 0
+SaysCleaning (Ok groups) o = AreRising groups × (o ≡ Done silent)
+SaysCleaning (Err error) o = SaysError error o
 
 -- ---- what is done
 

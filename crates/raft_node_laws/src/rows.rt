@@ -22,9 +22,9 @@ ghost use Rattle.raft_node_laws.specs.Law.{Lends, leading_in};
 ghost use Rattle.raft_node_laws.specs.Answered.{stop_behind};
 ghost use Rattle.raft_node_laws.specs.Reporting.{IsRecordedAs, IsReport};
 ghost use Rattle.raft_machines.specs.declared.telling.UnknownTokens.{UnknownTokens};
-ghost use Rattle.raft_node_laws.specs.Rows.{IsLed, IsWaiting, a_frame, crashed, done_unsaid, done_with};
+ghost use Rattle.raft_node_laws.specs.Rows.{IsLed, IsWaiting, a_frame, cleaned, crashed, done_unsaid, done_with};
 ghost use Rattle.raft_node_laws.specs.Rows.{elected, has_seven, knows_none, plainly_crashed};
-ghost use Rattle.raft_node_laws.specs.Rows.{plainly_elected, plainly_spared};
+ghost use Rattle.raft_node_laws.specs.Rows.{plainly_cleaned, plainly_elected, plainly_spared};
 ghost use Rattle.raft_node_laws.specs.Rows.{sent_by_number, spells, stopped_with};
 ghost use Rattle.raft_node_laws.specs.Saying.{SaysCall, SaysOpening, names_of, outcome_of_refusal};
 
@@ -79,6 +79,20 @@ pub fn records_of_clusters()
     ensures first { IsReport (1 ∷ []) [] (plainly_crashed ∷ []) }
     ensures not_down { IsReport [] [] (plainly_crashed ∷ []) → ⊥ }
     ensures forgotten { IsReport [] (elected (outcome.TurnedAway NodeDown) ∷ []) [] → ⊥ }
+{}
+
+/// A cleaning names the groups that hold old files back, which rise, and says nothing of any group.
+/// No other event is told so. A stop names the tokens that waited.
+pub fn records_of_cleanings()
+    ensures cleaned { IsRecordedAs [] (cleaned (outcome.Cleaned (7 ∷ 9 ∷ []))) (plainly_cleaned (Done silent)) }
+    ensures falling { IsRecordedAs [] (cleaned (outcome.Cleaned (9 ∷ 7 ∷ []))) (plainly_cleaned (Done silent)) → ⊥ }
+    ensures twice { IsRecordedAs [] (cleaned (outcome.Cleaned (7 ∷ 7 ∷ []))) (plainly_cleaned (Done silent)) → ⊥ }
+    ensures says { IsRecordedAs [] (cleaned (outcome.Cleaned [])) (plainly_cleaned (Done sends)) → ⊥ }
+    ensures unnamed { IsRecordedAs [] (cleaned (outcome.Done [])) (plainly_cleaned (Done silent)) → ⊥ }
+    ensures another { IsRecordedAs [] (elected (outcome.Cleaned [])) (plainly_elected (Done silent)) → ⊥ }
+    ensures stopped { (x : UnknownTokens) → IsWaiting 7 5 x
+        → IsRecordedAs [] (cleaned (outcome.Stopped (stopped_with (x ∷ [])))) (plainly_cleaned (Stopped (unknown_of 7 5 ∷ []))) }
+    ensures passed { IsRecordedAs [] (cleaned (outcome.Refused refusal.Failed)) (plainly_cleaned PassedOver) }
 {}
 
 /// A node that gets a group has it, with nothing in it, and every other group is as before. One that

@@ -3,7 +3,7 @@ use Rattle.std.specs.Prelude.{◌≡◌, None, ℕ, List, [], ◌++◌, codes, d
 use Rattle.std.specs.Fmt.{decimal}
 use Rattle.std.specs.List.{flat_map}
 use Rattle.hex.specs.Hex.{encode_lower}
-use Rattle.raft_cluster_events.specs.declared.outcome.EventOutcome.TheVariants.{Done, Stopped}
+use Rattle.raft_cluster_events.specs.declared.outcome.EventOutcome.TheVariants.{Cleaned, Done, Stopped}
 use Rattle.raft_cluster_events.specs.declared.outcome.GroupOutcome.{GroupOutcome}
 use Rattle.raft_cluster_events.specs.declared.outcome.StopCause.TheVariants.{Other}
 use Rattle.raft_cluster_script.specs.Answers.{outcome_text}
@@ -40,6 +40,10 @@ told_text outcomes = drop 2 (outcome_text (Done (map without_frames outcomes)))
 -- the frames in place of a cluster's
 abbrev pub done_text : List Outcome → List ℕ
 done_text outcomes = codes "ok" ++ sent_text outcomes ++ told_text outcomes
+
+-- the groups that hold old files back
+abbrev pub cleaned_text : List ℕ → List ℕ
+cleaned_text groups = outcome_text (Cleaned groups)
 
 -- a stop, with the tokens that stay unknown
 abbrev pub stop_text : List UnknownTokens → List ℕ

@@ -1,6 +1,6 @@
 //! The text of what a node answers.
 ghost use Rattle.std.specs.Prelude.{◌≡◌, ◌++◌, IfOk, OnOk, [], drop, map, string_bytes};
-ghost use Rattle.raft_node_script.specs.Answers.{IsOneLineOf, done_text, fault_text, frame_text, frames_text, named_text, sent_text, stop_text, told_text, unopened_text, without_frames};
+ghost use Rattle.raft_node_script.specs.Answers.{IsOneLineOf, cleaned_text, done_text, fault_text, frame_text, frames_text, named_text, sent_text, stop_text, told_text, unopened_text, without_frames};
 
 use crate::home::HomeRefusal;
 use itoa::Buffer;
@@ -79,6 +79,13 @@ pub fn done_text(alloc: Global, outcomes: Vec<Outcome>) -> Result<String, AllocE
     let told = outcome_text(alloc, &EventOutcome::Done(parts))?;
     push_told(&mut text, told.as_str())?;
     Ok(text)
+}
+
+/// What a cleaning answers: the groups that hold old files back (own).
+pub fn cleaned_text(alloc: Global, groups: Vec<u64>) -> Result<String, AllocError>
+    ensures { IfOk result (λ text. string_bytes text ≡ cleaned_text groups.items) }
+{
+    outcome_text(alloc, &EventOutcome::Cleaned(Sequence::from_vec(groups)))
 }
 
 // A refusal by its number and name.

@@ -4,6 +4,7 @@ ghost use Rattle.raft_node_script.specs.Home.{label_of};
 
 use raft_group_storage::GroupStorage;
 use raft_messages::SnapshotBytes;
+use raft_storage_cleaning::CleanStorage;
 
 /// Why a node's storage isn't opened (own).
 #[derive(Clone, Copy, Debug, PartialEq, Eq)]
@@ -38,7 +39,7 @@ impl HomeRefusal {
 /// Where a node has its storage (own): a process, or the next one, opens it there again.
 pub trait NodeHome: Drop {
     /// The node's groups, stored.
-    type Storage: GroupStorage<Snapshot = SnapshotBytes>;
+    type Storage: GroupStorage<Snapshot = SnapshotBytes> + CleanStorage;
 
     /// Opens what is stored, as after a crash.
     fn open(&mut self) -> Result<Self::Storage, HomeRefusal>;

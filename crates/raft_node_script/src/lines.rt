@@ -21,6 +21,8 @@ pub enum NodeLine {
     Ask { group: u64, call: GroupCommand },
     /// `feed PEER HEX`: these bytes are the next of the peer's stream.
     Feed { peer: u64, piece: Vec<u8> },
+    /// `clean`: the node's log is cleaned, where it is time for that.
+    Clean,
     /// `reopen WORKERS`: the node is closed, and opened with what is stored.
     Reopen,
 }
@@ -39,7 +41,7 @@ fn is_of_all(word: &str) -> bool {
 
 // Whether no line of a node's script begins with this word.
 fn is_foreign(word: &str) -> bool {
-    matches!(word, "nodes" | "deliver" | "clean" | "crash" | "fuse")
+    matches!(word, "nodes" | "deliver" | "crash" | "fuse")
 }
 
 // The line with the node behind its first word.
@@ -75,6 +77,7 @@ fn of_node(event: ClusterEvent) -> Option<NodeLine> {
             call,
             now: _,
         } => Some(NodeLine::Ask { group, call }),
+        ClusterEvent::Clean { .. } => Some(NodeLine::Clean),
         ClusterEvent::Reopen { .. } => Some(NodeLine::Reopen),
         _ => None,
     }

@@ -1,6 +1,6 @@
 //! How far a node's script has come, and what its next line does.
 
-use crate::answers::{done_text, fault_text, fed_text, unopened_text};
+use crate::answers::{cleaned_text, done_text, fault_text, fed_text, unopened_text};
 use crate::home::NodeHome;
 use crate::lines::{NodeLine, ReadNodeLine, read_node_line};
 use raft_conditions::GroupCommand;
@@ -127,6 +127,17 @@ impl<H: NodeHome> NodeScript<H> {
         fed_text(self.alloc, outcomes, fault)
     }
 
+    // The log is cleaned, where it is time for that.
+    fn clean(&mut self) -> Result<String, AllocError> {
+        let Some(node) = &mut self.node else {
+            return self.down();
+        };
+        match node.clean_files() {
+            Ok(groups) => cleaned_text(self.alloc, groups),
+            Err(fault) => self.refused(fault),
+        }
+    }
+
     fn total(&self, group: u64) -> Result<String, AllocError> {
         total_text(self.alloc, self.applied(group))
     }
@@ -154,6 +165,7 @@ impl<H: NodeHome> NodeScript<H> {
             NodeLine::Add { group } => self.add(group),
             NodeLine::Ask { group, call } => self.ask(group, &call),
             NodeLine::Feed { peer, piece } => self.feed(peer, piece.as_slice()),
+            NodeLine::Clean => self.clean(),
             NodeLine::Reopen => self.reopen(),
         }
     }

@@ -16,6 +16,7 @@ use Rattle.raft_node.specs.Opening.{HasNotOpened}
 use Rattle.raft_node_faults.specs.declared.fault.Fault.{Fault}
 use Rattle.raft_cluster_events.specs.declared.outcome.NodeError.{NodeError}
 use Rattle.raft_cluster_events.specs.declared.outcome.NodeError.TheVariants as error
+use Rattle.raft_cluster_events.specs.declared.outcome.NodeRefusal.TheVariants as refusal
 use Rattle.raft_cluster_events.specs.declared.outcome.Stop.{Stop}
 use Rattle.raft_cluster_events.specs.declared.outcome.Unsaid.{Unsaid}
 use Rattle.raft_machines.specs.declared.machine.StateMachine.{Ghosts}
@@ -23,10 +24,12 @@ use Rattle.raft_node.specs.declared.outcome.Outcome.{Outcome}
 use Rattle.raft_node_laws.specs.Answered.{unsaid_of}
 use Rattle.raft_cluster_events.specs.declared.node.NodeOutcome.{NodeOutcome}
 use Rattle.raft_node.specs.Feeding.{StaysBut}
-use Rattle.raft_nodes_on_files.specs.Acts.{AreHandedBack, FailsTo, FusesAs, IsFedOn, IsOpened, IsPassed, ReopensTo, WhenDown, WhenUp, refused, some_outcome}
+use Rattle.raft_node.specs.Settling.{IsStorageStop}
+use Rattle.raft_node.specs.Waiting.{waiting_of}
+use Rattle.raft_nodes_on_files.specs.Acts.{AreHandedBack, CleansAs, FailsTo, FusesAs, IsFedOn, IsOpened, IsPassed, IsUpAs, ReopensTo, WhenDown, WhenUp, refused, some_outcome}
 use Rattle.raft_cluster_events.specs.declared.outcome.StopCause.TheVariants as stop_cause
 use Rattle.raft_node_faults.specs.declared.fault.Fault.TheVariants as fault
-use Rattle.raft_node_joint.specs.Reopening.{NamesNobody}
+use Rattle.raft_node_joint.specs.Reopening.{NamesNobody, StopsCleaning}
 use Rattle.raft_node_laws.specs.Saying.{names_of}
 use Rattle.raft_nodes_on_files.specs.Answering.{error_of, node_outcome, quiet_stop}
 use Rattle.std.specs.BTreeMap.{get}
@@ -37,10 +40,10 @@ use Rattle.raft_nodes_on_files.specs.Standing.{UpNode, value}
 use Rattle.raft_nodes_on_files.specs.declared.file_node.FileNode.{FileNode}
 use Rattle.raft_nodes_on_files.proofs.Taken.{Answer}
 
-abbrev done_with : Unit {0} → Result (Unit {0}) (Fault KeepingFault)
+abbrev done_with : {T : Type 0} → T → Result T (Fault KeepingFault)
 done_with done = Ok done
 
-abbrev failed_by : Fault KeepingFault → Result (Unit {0}) (Fault KeepingFault)
+abbrev failed_by : {T : Type 0} → Fault KeepingFault → Result T (Fault KeepingFault)
 failed_by why = Err why
 
 -- what an opening may find of the files as they are, the log left
@@ -63,16 +66,31 @@ left_so own kept before behind why more n = record {
 }
 
 -- a call that was done was asked of a node that goes on
-pub going_on : (b : Bool) (result : Result (Unit {0}) (Fault KeepingFault)) (done : Unit {0}) → (b ≡ true → result ≡ Err fault.Failed) → result ≡ Ok done → b ≡ false
+pub going_on : {T : Type 0} (b : Bool) (result : Result T (Fault KeepingFault)) (done : T) → (b ≡ true → result ≡ Err fault.Failed) → result ≡ Ok done → b ≡ false
 going_on true result done failed is = absurd (let no : Err fault.Failed ≡ done_with done = sym (failed refl) ∙ is in cc)
 going_on false result done failed is = refl
 
+-- a node that has failed refuses
+pub failed_so : {T : Type 0} (result : Result T (Fault KeepingFault)) (why : Fault KeepingFault) (met : NodeError) → result ≡ Err fault.Failed → result ≡ Err why → met ≡ error_of why
+    → met ≡ error.Refused refusal.Failed
+failed_so {T = T} result why met failed is says =
+    let same : failed_by {T = T} why ≡ failed_by {T = T} fault.Failed = sym is ∙ failed in
+    let so : why ≡ fault.Failed = cc in
+    says ∙ ap error_of so
+
 pub refused_so : (result : Result (Unit {0}) (Fault KeepingFault)) (why : Fault KeepingFault) (met : NodeError) → result ≡ Err fault.Failed → result ≡ Err why → met ≡ error_of why
     → Err met ≡ refused {T = Unit {0}}
-refused_so result why met failed is says =
-    let same : failed_by why ≡ failed_by fault.Failed = sym is ∙ failed in
-    let so : why ≡ fault.Failed = cc in
-    ap Err (says ∙ ap error_of so)
+refused_so result why met failed is says = ap Err (failed_so result why met failed is says)
+
+-- what follows of an answer that was met
+pub when_ok : {T F : Type 0} (result : Result T F) (done : T) (P : Type 0) → result ≡ Ok done → OnOk result P → P
+when_ok result done P is h = subst (λ r. OnOk r P) is h
+
+pub when_err : {T F : Type 0} (result : Result T F) (why : F) (P : Type 0) → result ≡ Err why → OnErr result P → P
+when_err result why P is h = subst (λ r. OnErr r P) is h
+
+pub told_err : {T F : Type 0} (result : Result T F) (why : F) (P : F → Type 0) → result ≡ Err why → IfErr result P → P why
+told_err result why P is h = subst (λ r. IfErr r P) is h
 
 pub is_none : {A : Type 0} (x : Option A) → is_some x ≡ false → x ≡ None
 is_none None is = refl
@@ -145,6 +163,41 @@ module _ {M : Type 0} {g : Ghosts M} (rules : MachineRules) (state : M → List 
     running = λ group. ap (λ (x : UpNode M g). running_in state x.machines group) same;
     kept = kept;
   }
+
+  -- a storage that failed in a cleaning shows what it showed, and all that waited are named
+  stops_cleaning : (n m : UpNode M g) (why : Fault KeepingFault) → m.groups ≡ record n.groups { storage = m.groups.storage; has_failed = true }
+      → KeepsAll (shows rules n.groups.storage) (shows rules m.groups.storage) → IsStorageStop (λ group. waiting_of (running_in state n.machines group)) why
+      → StopsCleaning (value rules state n) (value rules state m) why
+  stops_cleaning n m (fault.Stopped cause unknown) same kept stop = record {
+    own = ap (λ x. x.id) same;
+    fails = ap (λ x. x.has_failed) same;
+    kept = kept;
+    names = stop.1;
+  }
+  stops_cleaning n m other same kept stop = absurd stop
+
+  -- a cleaning that isn't done is refused, or stops the node
+  pub not_cleaned : (n m : UpNode M g) (old new : FileNode M g) {T : Type 0} (result : Result T (Fault KeepingFault)) (why : Fault KeepingFault) (met : NodeError) → result ≡ Err why → met ≡ error_of why
+      → IsUpAs rules state old new m → (n.groups.has_failed ≡ true → (result ≡ Err fault.Failed) × (m ≡ n))
+      → (n.groups.has_failed ≡ false → IsStorageStop (λ group. waiting_of (running_in state n.machines group)) why)
+      → (n.groups.has_failed ≡ false → m.groups ≡ record n.groups { storage = m.groups.storage; has_failed = true })
+      → KeepsAll (shows rules n.groups.storage) (shows rules m.groups.storage) → CleansAs rules state n old (Err met) new
+  not_cleaned n m old new result why met is says up failed stops stopped kept = go n.groups.has_failed refl
+    where
+      go : (b : Bool) → n.groups.has_failed ≡ b → CleansAs rules state n old (Err met) new
+      go true has = inl (record {
+        failed = has;
+        named = failed_so result why met (failed has).0 is says;
+        up = subst (λ (x : UpNode M g). IsUpAs rules state old new x) (failed has).1 up;
+      })
+      go false going = inr (record {
+        failed = m;
+        why = why;
+        going = going;
+        stops = stops_cleaning n m why (stopped going) kept (stops going);
+        named = says;
+        up = up;
+      })
 
   pub same_streams : (n m : UpNode M g) → m ≡ record n { groups = record n.groups { storage = m.groups.storage } } → (peer : ℕ)
       → (value rules state m).streams peer ≡ (value rules state n).streams peer

@@ -7,32 +7,41 @@ use Rattle.raft_cluster_conditions.specs.Cuts.{are_cuts}
 use Rattle.raft_cluster_events.specs.declared.event.CrashChoice.{CrashChoice}
 use Rattle.raft_cluster_events.specs.declared.node.NodeOutcome.{NodeOutcome}
 use Rattle.raft_cluster_events.specs.declared.outcome.NodeError.{NodeError}
+use Rattle.raft_cluster_events.specs.declared.outcome.NodeError.TheVariants as error
+use Rattle.raft_cluster_events.specs.declared.outcome.NodeRefusal.TheVariants as refusal
 use Rattle.raft_cluster_events.specs.declared.outcome.Stop.{Stop}
 use Rattle.raft_framed_groups.specs.Frames.{frame_with}
 use Rattle.raft_group_step.specs.GroupEvent.{GroupCall}
 use Rattle.raft_group_step.specs.Message.{Message}
-use Rattle.raft_headline.specs.ClusterEvent.{AddGroup, Ask, ClusterEvent, ClusterOutcome, Crash, Deliver, Done, Fuse, PassedOver, Recorded, Reopen, ResetPeer, Stopped, silent}
+use Rattle.raft_headline.specs.ClusterEvent.{AddGroup, Ask, Clean, ClusterEvent, ClusterOutcome, Crash, Deliver, Done, Fuse, PassedOver, Recorded, Reopen, ResetPeer, Stopped, silent}
 use Rattle.raft_headline.specs.Machines.{KeepsItsLaw}
 use Rattle.raft_laws.specs.GroupWorld.{NodeState}
 use Rattle.raft_machines.specs.Machine.{MachineRules}
 use Rattle.raft_machines.specs.declared.machine.StateMachine.{Ghosts}
+use Rattle.raft_headline.specs.Naming.{names_in}
+use Rattle.raft_node.specs.Feeding.{StaysBut}
 use Rattle.raft_node.specs.Standing.{NodeValue}
-use Rattle.raft_node_joint.specs.Reopening.{reset_as}
+use Rattle.raft_node_faults.specs.declared.fault.Fault.{Fault}
+use Rattle.raft_node_faults.specs.declared.fault.Fault.TheVariants as fault
+use Rattle.raft_node_joint.specs.Reopening.{StopsCleaning, reset_as}
 use Rattle.raft_node_joint.specs.Saying.{Spells}
 use Rattle.raft_node_joint.proofs.Others.{same_or_other}
-use Rattle.raft_node_joint.proofs.ResetsLeadOn.{fuses_lead, resets_lead}
+use Rattle.raft_node_joint.proofs.Failures.{stopped_cleanings_lead}
+use Rattle.raft_node_joint.proofs.ResetsLeadOn.{cleanings_lead, fuses_lead, resets_lead}
 use Rattle.raft_node_laws.specs.Answered.{Answered, none_of, one_of, opening_of, some_of}
 use Rattle.raft_node_laws.specs.Delivery.{Comes, pieces_from}
 use Rattle.raft_node_laws.specs.Law.{Anything, IsAskedAt, IsTaken, KeepsLaw, Leads, LeadsOn, WasSent}
-use Rattle.raft_node_laws.specs.Saying.{SaysReset}
+use Rattle.raft_node_laws.specs.Saying.{SaysCleaning, SaysError, SaysReset}
 use Rattle.raft_node_laws.specs.Saying as law
 use Rattle.raft_store.specs.Reading.{StandsFor}
 use Rattle.raft_wire.specs.Frames.{spelled_frame, spelled_rest}
 use Rattle.raft_wire.specs.declared.frame.Frame.{Frame}
 use Rattle.raft_wire.specs.Stream.{fresh}
-use Rattle.raft_nodes_on_files.specs.Acts.{AddsTo, AsksTo, FusesAs, GoesDown, IsUpAs, OpensTo, ReopensTo, ResetsTo, WhenDown, WhenUp, file_node_acts, file_node_states, refused}
-use Rattle.raft_nodes_on_files.specs.Standing.{UpNode, value}
+use Rattle.raft_nodes_on_files.specs.Acts.{AddsTo, AsksTo, CleansAs, FusesAs, GoesDown, IsUpAs, OpensTo, ReopensTo, ResetsTo, WhenDown, WhenUp, file_node_acts, file_node_states, refused}
+use Rattle.raft_nodes_on_files.specs.Kept.{KeepingFault}
+use Rattle.raft_nodes_on_files.specs.Standing.{MayBeUp, UpNode, value}
 use Rattle.raft_nodes_on_files.specs.declared.file_node.FileNode.{FileNode}
+use Rattle.raft_nodes_on_files.specs.Answering.{error_of}
 use Rattle.raft_nodes_on_files.proofs.Calls.{adds_so, asks_so}
 use Rattle.raft_nodes_on_files.proofs.Deliveries.{frame_taken}
 use Rattle.raft_nodes_on_files.proofs.Led.{led}
@@ -132,6 +141,52 @@ module _ {M : Type 0} {g : Ghosts M} (rules : MachineRules) (state : M → List 
       (reset_says failed failed n r.mid peer answered refl r.answer)
       (resets_lead rules (of n) (of r.mid) history peer olds r.stays (λ h. (at h).may_be)))
 
+  -- ---- a cleaning
+
+  module _ (old : FileNode M g) (n : UpNode M g) (up : old.up ≡ Some n) (ids : List ℕ) (history : List Recorded) (olds : ℕ → List NodeState)
+      (behind : Behind rules state ids history old olds) where
+    abbrev stood : (h : ℕ) → MayBeUp rules old.id (of n) h (olds h)
+    stood h = is_up_in rules state begins restores old n up h (olds h) (behind.may_be h)
+
+    abbrev Cleaned : FileNode M g → (ClusterOutcome → Type 0) → Type 0
+    Cleaned new Says = Leads rules (file_node_acts rules state) (file_node_states rules state) history (Clean old.id) olds old new Says
+
+    never : {A : Type 0} → false ≡ true → A
+    never wrong = absurd (cc)
+
+    -- the storage failed in it
+    cleaning_stops : (new : FileNode M g) (m : UpNode M g) (why : Fault KeepingFault) (met : NodeError) → (of n).groups.has_failed ≡ false → StopsCleaning (of n) (of m) why → met ≡ error_of why
+        → IsUpAs rules state old new m → Cleaned new (SaysCleaning (Err met))
+    cleaning_stops new m (fault.Stopped cause unknown) met going stops named is_up =
+        led rules state old new m (of n) history (λ i. Clean i) false (Stopped (names_in unknown.items)) olds (SaysCleaning (Err met)) (stood 0).own is_up stops.own
+        (λ goes peer. absurd (let no : false ≡ true = sym goes ∙ stops.fails in cc)) (λ no. never no)
+        (subst (λ x. SaysError x (Stopped (names_in unknown.items))) (sym named) refl)
+        (stopped_cleanings_lead rules (of n) (of m) (fault.Stopped cause unknown) history olds going (λ h. (stood h).may_be) stops)
+    cleaning_stops new m other met going stops named is_up = absurd stops.names
+
+    -- nothing changes
+    stays_itself : StaysBut (of n) (of n) 0
+    stays_itself = record { own = refl; has_failed = refl; members = λ group. refl; well = λ well. well; running = λ group. refl; kept = λ group parts shown. shown }
+
+    cleans_so : (new : FileNode M g) (answered : Result (List ℕ) NodeError) → CleansAs rules state n old answered new → Cleaned new (SaysCleaning answered)
+    cleans_so new (Ok groups) c =
+        led rules state old new c.mid (of n) history (λ i. Clean i) false (reset_as (of n).groups.has_failed) olds (SaysCleaning (Ok groups)) (stood 0).own c.up c.stays.own
+        (λ goes peer. c.streams peer ∙ (stood 0).streams c.going peer) (λ no. never no)
+        (c.rising, ap reset_as c.going)
+        (cleanings_lead rules (of n) (of c.mid) history 0 olds c.stays (λ h. (stood h).may_be))
+    cleans_so new (Err met) (inl c) =
+        led rules state old new n (of n) history (λ i. Clean i) false (reset_as (of n).groups.has_failed) olds (SaysCleaning (Err met)) (stood 0).own c.up refl
+        (λ goes peer. (stood 0).streams goes peer) (λ no. never no)
+        (subst (λ x. SaysError x (reset_as (of n).groups.has_failed)) (sym c.named) (subst (λ b. SaysError (error.Refused refusal.Failed) (reset_as b)) (sym c.failed) refl))
+        (cleanings_lead rules (of n) (of n) history 0 olds stays_itself (λ h. (stood h).may_be))
+    cleans_so new (Err met) (inr c) = cleaning_stops new c.failed c.why met c.going c.stops c.named c.up
+
+  cleans : (old new : FileNode M g) (answered : Result (List ℕ) NodeError) → (file_node_acts rules state).is_up old ≡ true → (file_node_acts rules state).cleans old answered new
+      → On (Clean old.id) old new (SaysCleaning answered)
+  cleans old new answered is acts ids history olds kind behind =
+      up_one old.up is old new (answered ≡ refused) (λ n. CleansAs rules state n old answered new) acts
+      (λ n up c. cleans_so old n up ids history olds behind new answered c)
+
   -- ---- a fuse
 
   fuses_by : (old new : FileNode M g) (up : Option (UpNode M g)) → old.up ≡ up → FusesAs rules state old new up → On (Fuse old.id) old new (λ o. o ≡ Done silent)
@@ -179,6 +234,7 @@ module _ {M : Type 0} {g : Ghosts M} (rules : MachineRules) (state : M → List 
     asks = asks;
     delivers = delivers;
     resets = resets;
+    cleans = cleans;
     fuses = fuses;
     crashes = crashes;
     reopens = reopens;

@@ -35,11 +35,11 @@ use Rattle.raft_node_faults.specs.declared.fault.Cause.TheVariants as cause
 use Rattle.raft_node_faults.specs.declared.fault.Fault.{Fault}
 use Rattle.raft_node_faults.specs.declared.fault.Fault.TheVariants as fault
 use Rattle.raft_node_joint.specs.Leading.{IsAdding}
-use Rattle.raft_node_joint.specs.Reopening.{NamesNobody}
+use Rattle.raft_node_joint.specs.Reopening.{NamesNobody, StopsCleaning}
 use Rattle.raft_node_joint.specs.Saying.{Spells}
 use Rattle.raft_node_laws.specs.Answered.{stop_behind}
 use Rattle.raft_node_laws.specs.Law.{first_state}
-use Rattle.raft_node_laws.specs.Saying.{names_of}
+use Rattle.raft_node_laws.specs.Saying.{AreRising, names_of}
 use Rattle.raft_store.specs.Reading.{Holds, HoldsOne, StandsFor}
 use Rattle.raft_wire.specs.Frames.{FitsFrame, spelled_frame}
 use Rattle.raft_wire.specs.Stream.{fresh}
@@ -165,6 +165,34 @@ module _ {M : Type 0} {g : Ghosts M} (rules : MachineRules) (state : M → List 
     pub answer : ((of n).groups.has_failed ≡ true) × (answered ≡ refused) ⊎ ((of n).groups.has_failed ≡ false) × (answered ≡ Ok tt) × ((of mid).streams peer ≡ fresh)
     pub up : IsUpAs old new mid
 
+  -- the files of a node that goes on are cleaned: all stays, but that its storage has others of the same
+  pub record CleansTo (n : UpNode M g) (old : FileNode M g) (groups : List ℕ) (new : FileNode M g) : Type 0 where
+    pub mid : UpNode M g
+    pub going : (of n).groups.has_failed ≡ false
+    pub rising : AreRising groups
+    pub stays : StaysBut (of n) (of mid) 0
+    pub streams : (peer : ℕ) → (of mid).streams peer ≡ (of n).streams peer
+    pub up : IsUpAs old new mid
+
+  -- its storage fails in that, and it stops
+  pub record StopsInCleaning (n : UpNode M g) (old : FileNode M g) (met : NodeError) (new : FileNode M g) : Type 0 where
+    pub failed : UpNode M g
+    pub why : Fault KeepingFault
+    pub going : (of n).groups.has_failed ≡ false
+    pub stops : StopsCleaning (of n) (of failed) why
+    pub named : met ≡ error_of why
+    pub up : IsUpAs old new failed
+
+  -- one that has failed refuses a cleaning
+  pub record RefusesCleaning (n : UpNode M g) (old : FileNode M g) (met : NodeError) (new : FileNode M g) : Type 0 where
+    pub failed : (of n).groups.has_failed ≡ true
+    pub named : met ≡ error.Refused refusal.Failed
+    pub up : IsUpAs old new n
+
+  abbrev pub CleansAs : UpNode M g → FileNode M g → Result (List ℕ) NodeError → FileNode M g → Type 0
+  CleansAs n old (Ok groups) new = CleansTo n old groups new
+  CleansAs n old (Err met) new = RefusesCleaning n old met new ⊎ StopsInCleaning n old met new
+
   pub record FailsTo (n : UpNode M g) (old : FileNode M g) (stop : Stop) (new : FileNode M g) : Type 0 where
     pub failed : UpNode M g
     pub why : Fault KeepingFault
@@ -274,6 +302,7 @@ module _ {M : Type 0} {g : Ghosts M} (rules : MachineRules) (state : M → List 
     asks = λ old group call now answered new. WhenUp old new old.up (answered ≡ refused) (λ n. AsksTo rules state n group call now old answered new);
     feeds = λ old peer piece now answered new. WhenUp old new old.up (answered ≡ refused) (λ n. FeedsTo rules state n peer piece now old answered new);
     resets = λ old peer answered new. WhenUp old new old.up (answered ≡ refused) (λ n. ResetsTo rules state n peer old answered new);
+    cleans = λ old answered new. WhenUp old new old.up (answered ≡ refused) (λ n. CleansAs rules state n old answered new);
     fails = λ old stop new. WhenUp old new old.up (NamesNobody (names_of stop)) (λ n. FailsTo rules state n old stop new);
     fuses = λ old first new. FusesAs old new old.up;
     crashes = λ old choice new. WhenUp old new old.up (Unit {0}) (λ n. GoesDown n old new);

@@ -218,6 +218,16 @@ impl<M: StateMachine> ClusterNode for FileNode<M> {
         }
     }
 
+    fn clean_files(&mut self) -> Result<Sequence<u64>, NodeError> {
+        match &mut self.up {
+            Some(node) => match node.clean_files() {
+                Ok(groups) => Ok(Sequence::from_vec(groups)),
+                Err(why) => Err(error_of(why)),
+            },
+            None => down(),
+        }
+    }
+
     fn fail(&mut self) -> Stop {
         match &mut self.up {
             Some(node) => as_stop(self.alloc, node.fail()),

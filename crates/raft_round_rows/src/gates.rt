@@ -82,6 +82,7 @@ impl ClusterNode for GateNode {
       asks = λ old group call now answered new. Unit {0};
       feeds = λ old peer piece now answered new. Unit {0};
       resets = λ old peer answered new. Unit {0};
+      cleans = λ old answered new. Unit {0};
       fails = λ old stop new. Unit {0};
       fuses = λ old first_refused new. Unit {0};
       crashes = λ old choice new. Unit {0};
@@ -144,6 +145,10 @@ impl ClusterNode for GateNode {
 
     fn reset_peer(&mut self, _peer: u64) -> Result<(), NodeError> {
         Ok(())
+    }
+
+    fn clean_files(&mut self) -> Result<Sequence<u64>, NodeError> {
+        Ok(Sequence::new(self.alloc))
     }
 
     fn fail(&mut self) -> Stop {

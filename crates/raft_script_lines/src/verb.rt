@@ -40,19 +40,20 @@ pub enum Verb {
 pub fn verb_in(word: &str) -> Option<Verb>
     ensures { result ≡ verb_of word.now }
 {
+    // Most lines deliver a frame or propose a command.
     match word {
+        "deliver" => Some(Verb::Deliver),
+        "propose" => Some(Verb::Three(WordOfThree::Propose)),
         "add" => Some(Verb::Two(WordOfTwo::Add)),
         "elect" => Some(Verb::Two(WordOfTwo::Elect)),
         "heartbeat" => Some(Verb::Two(WordOfTwo::Heartbeat)),
         "snapshot" => Some(Verb::Two(WordOfTwo::Snapshot)),
         "reopen" => Some(Verb::Two(WordOfTwo::Reopen)),
-        "propose" => Some(Verb::Three(WordOfThree::Propose)),
         "lost" => Some(Verb::Three(WordOfThree::Lost)),
         "purge" => Some(Verb::Three(WordOfThree::Purge)),
         "init" => Some(Verb::Init),
         "addr" => Some(Verb::Addr),
         "voters" => Some(Verb::Voters),
-        "deliver" => Some(Verb::Deliver),
         "clean" => Some(Verb::Clean),
         "crash" => Some(Verb::Crash),
         _ => None,

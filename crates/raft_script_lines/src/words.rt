@@ -1,5 +1,5 @@
 //! Words of a text, one after the other, and the numbers that they name.
-ghost use Rattle.std.specs.Prelude.{◌≡◌, ◌≢◌, ◌∷◌, ℕ, List, [], MatchResult, Some, None};
+ghost use Rattle.std.specs.Prelude.{◌≡◌, ◌≢◌, ◌<◌, ◌∷◌, ℕ, List, [], MatchOption, MatchResult, Some, None, get_or, length};
 ghost use Rattle.std.specs.List.{list_any};
 ghost use Rattle.std.specs.Option.{option_map};
 ghost use Rattle.raft_script_lines.specs.Words.{words_of, words_after, is_empty_word, number_of, numbers_of};
@@ -10,13 +10,21 @@ use crate::id_list::IdList;
 use crate::no_event::{NoEvent, ReadLineError};
 use std::alloc::Global;
 
+// The place of the first space.
+fn space_in(bytes: &[u8]) -> Option<usize>
+    ensures { MatchOption result ((i : ℕ) → i < length bytes.now → get_or bytes.now i 0 ≢ 32)
+        (λ place. (place < length bytes.now) × (get_or bytes.now place 0 ≡ 32) × ((i : ℕ) → i < place → get_or bytes.now i 0 ≢ 32)) }
+{
+    bytes.iter().position(|byte| *byte == b' ')
+}
+
 /// The first word, and the text behind the space that ends it (own).
 pub fn first_word(text: &str) -> (&str, Option<&str>)
     ensures { words_of text.now ≡ result.0.now ∷ words_after (option_map
         (λ rest. rest.now) result.1) }
 {
-    match text.split_once(' ') {
-        Some((word, rest)) => (word, Some(rest)),
+    match space_in(text.as_bytes()) {
+        Some(place) => (&text[..place], Some(&text[place + 1..])),
         None => (text, None),
     }
 }

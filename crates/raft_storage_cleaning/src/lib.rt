@@ -1,7 +1,7 @@
 //! What is asked of a storage whose log can be cleaned.
 #![tactic(auto)]
 
-ghost use Rattle.std.specs.Prelude.{ℕ, IfOk, OnOk};
+ghost use Rattle.std.specs.Prelude.{ℕ, IfOk, None, OnOk};
 ghost use Rattle.std.specs.List.Sorted.{IsStrictlySortedBy};
 ghost use Rattle.std.specs.Ordering.{nat_cmp};
 ghost use Rattle.raft_group_storage.specs.Keeping.{KeepsAll};
@@ -16,5 +16,6 @@ pub trait CleanStorage: GroupStorage {
     fn clean_files(&mut self) -> Result<Vec<u64>, Self::Fault>
         ensures rising { IfOk result (λ groups. IsStrictlySortedBy nat_cmp groups.items) }
         ensures well { Self.GroupStorage.is_well self.old → OnOk result (Self.GroupStorage.is_well self.new) }
-        ensures kept { KeepsAll (Self.GroupStorage.shows self.old) (Self.GroupStorage.shows self.new) };
+        ensures kept { KeepsAll (Self.GroupStorage.shows self.old) (Self.GroupStorage.shows self.new) }
+        ensures met { OnOk result (Self.GroupStorage.meets self.old self.new None) };
 }

@@ -1,5 +1,5 @@
 -- Why a store refuses a call.
-use Rattle.std.specs.Prelude.{◌≡◌, Result, MatchResult}
+use Rattle.std.specs.Prelude.{◌≡◌, Option, Some, None, Result, MatchResult}
 use Rattle.raft_wire.specs.declared.error.FrameError.{FrameError}
 use Rattle.raft_wire.specs.declared.error.FrameError.TheVariants as errors
 use Rattle.raft_store.specs.declared.fault.StoreRefusal.{StoreRefusal}
@@ -21,3 +21,8 @@ IsRead result value = MatchResult result (λ found. found ≡ value) (λ refused
 abbrev pub IsLogOrMemory : {F : Type 0} → StoreFault F → Type 0
 IsLogOrMemory (Log fault) = Unit {0}
 IsLogOrMemory (Refused refused) = refused ≡ refusal.Memory
+
+-- the log's own fault, if it is one
+abbrev pub log_fault : {F : Type 0} → StoreFault F → Option F
+log_fault (Log fault) = Some fault
+log_fault (Refused refused) = None

@@ -14,7 +14,10 @@ impl<M: StateMachine, L: ContentLog> GroupStorage for Store<M, L> {
 
     type Fault = StoreFault<L::Fault>;
 
+    ghost use Rattle.std.proofs.Common.{subst, sym};
+    ghost use Rattle.std.specs.Prelude.{option_and_then};
     ghost use Rattle.raft_store.specs.Batches.{ShowsBy};
+    ghost use Rattle.raft_store.specs.Faults.{log_fault};
     ghost use Rattle.raft_store.specs.Reading.{StandsFor};
     ghost use Rattle.raft_store.specs.Showing.{shows_more};
 
@@ -24,7 +27,15 @@ impl<M: StateMachine, L: ContentLog> GroupStorage for Store<M, L> {
 
     ghost stands = { λ x y. StandsFor M.rules x y };
 
+    ghost meets = { λ old new met. L.meets old.log new.log (option_and_then log_fault met) };
+
     ghost shows_more = { λ x. shows_more M.rules L.is_sound L.answers L.leaves x.log x.recent };
+
+    ghost meets_none = { λ x. L.meets_none x.log };
+
+    ghost meets_later = { λ x y z met first second. L.meets_later x.log y.log z.log (option_and_then log_fault met) first second };
+
+    ghost meets_want = { λ x y refused why gives first. subst (λ fault. L.meets x.log y.log (log_fault fault)) (sym gives) first };
 
     fn make_group(&mut self, group: u64) -> Result<(), StoreFault<L::Fault>> {
         Store::make_group(self, group)

@@ -1,5 +1,7 @@
 //! What a log holds of a group.
-ghost use Rattle.std.specs.Prelude.{◌≡◌, ◌-◌, ◌≤◌, ℕ, List, [], ◌∷◌, IfOk, IfErr, IfSome, MatchResult, OnOk, ◌++◌, drop, false, filter, is_some, max, option_map, take};
+ghost use Rattle.std.specs.Prelude.{◌≡◌, ◌-◌, ◌≤◌, ℕ, List, [], ◌∷◌, ◌++◌, drop, filter, max, take};
+ghost use Rattle.std.specs.Prelude.{IfOk, IfErr, IfSome, MatchResult, OnOk, false, is_some, option_and_then, option_map};
+ghost use Rattle.std.specs.Result.{result_err};
 ghost use Rattle.std.specs.List.Sorted.{IsStrictlySortedBy};
 ghost use Rattle.std.specs.Ordering.{eq_by_cmp, nat_cmp};
 ghost use Rattle.std.specs.Set.{is_member};
@@ -10,7 +12,7 @@ ghost use Rattle.raft_group_storage.specs.Keeping.{KeepsAll, StandsOrNone, entri
 ghost use Rattle.raft_group_storage.specs.Loaded.{IsLoaded};
 ghost use Rattle.raft_log_records.specs.Batch.{payloads};
 ghost use Rattle.raft_store.specs.Batches.{ShowsBy};
-ghost use Rattle.raft_store.specs.Faults.{IsLogOrMemory};
+ghost use Rattle.raft_store.specs.Faults.{IsLogOrMemory, log_fault};
 ghost use Rattle.raft_store.specs.Keys.{group_key};
 ghost use Rattle.raft_store.specs.Reading.{StandsFor};
 ghost use Rattle.raft_store.specs.declared.fault.StoreRefusal.TheVariants as refusal;
@@ -38,20 +40,6 @@ fn head_of(snapshot: Option<SnapshotBytes>) -> Option<SnapshotMeta<u64, BasicNod
     }
 }
 
-// The entries as requests have them.
-fn as_sent(
-    alloc: Global,
-    entries: Vec<GroupEntry>,
-) -> Result<Entries<u64, BasicNode, Bytes>, AllocError>
-    ensures { IfOk result (λ sent. sent ≡ entries.items) }
-{
-    let mut sent = Entries::new(alloc);
-    for entry in entries {
-        sent.push(entry)?;
-    }
-    Ok(sent)
-}
-
 // One id more.
 fn push_id(ids: &mut Vec<u64>, id: u64) -> Result<(), AllocError>
     ensures { OnOk result (ids.new.items ≡ ids.old.items ++ id ∷ []) }
@@ -68,6 +56,7 @@ impl<M: StateMachine, L: ContentLog> Store<M, L> {
         ensures well { L.is_sound self.old.log → OnOk result (L.is_sound self.new.log) }
         ensures steady { L.is_sound self.new.log → L.is_sound self.old.log × (L.answers self.new.log ≡ L.answers self.old.log) }
         ensures kept { KeepsAll (ShowsBy M.rules L.is_sound L.answers L.leaves self.old.log self.old.recent) (ShowsBy M.rules L.is_sound L.answers L.leaves self.new.log self.new.recent) }
+        ensures met { L.meets self.old.log self.new.log (option_and_then log_fault (result_err result)) }
     {
         match self.log.get(group, key) {
             Ok(value) => Ok(value),
@@ -86,6 +75,7 @@ impl<M: StateMachine, L: ContentLog> Store<M, L> {
         ensures cause { IfErr result IsLogOrMemory }
         ensures well { L.is_sound self.old.log → OnOk result (L.is_sound self.new.log) }
         ensures kept { KeepsAll (ShowsBy M.rules L.is_sound L.answers L.leaves self.old.log self.old.recent) (ShowsBy M.rules L.is_sound L.answers L.leaves self.new.log self.new.recent) }
+        ensures met { L.meets self.old.log self.new.log (option_and_then log_fault (result_err result)) }
     {
         match self.log.fetch_entries_to(group, begin, end) {
             Ok(bytes) => Ok(bytes),
@@ -105,6 +95,7 @@ impl<M: StateMachine, L: ContentLog> Store<M, L> {
             → IfErr result IsLogOrMemory }
         ensures well { L.is_sound self.old.log → OnOk result (L.is_sound self.new.log) }
         ensures kept { KeepsAll (ShowsBy M.rules L.is_sound L.answers L.leaves self.old.log self.old.recent) (ShowsBy M.rules L.is_sound L.answers L.leaves self.new.log self.new.recent) }
+        ensures met { L.meets self.old.log self.new.log (option_and_then log_fault (result_err result)) }
     {
         let purged_value = self.get(group, b"purged")?;
         let end_value = self.get(group, b"end")?;
@@ -122,6 +113,7 @@ impl<M: StateMachine, L: ContentLog> Store<M, L> {
         ensures well { L.is_sound self.old.log → OnOk result (L.is_sound self.new.log) }
         ensures steady { L.is_sound self.new.log → L.is_sound self.old.log × (L.answers self.new.log ≡ L.answers self.old.log) }
         ensures kept { KeepsAll (ShowsBy M.rules L.is_sound L.answers L.leaves self.old.log self.old.recent) (ShowsBy M.rules L.is_sound L.answers L.leaves self.new.log self.new.recent) }
+        ensures met { L.meets self.old.log self.new.log (option_and_then log_fault (result_err result)) }
     {
         Ok(self.get(group, b"group")?.is_some())
     }
@@ -134,6 +126,7 @@ impl<M: StateMachine, L: ContentLog> Store<M, L> {
             → IfErr result IsLogOrMemory }
         ensures well { L.is_sound self.old.log → OnOk result (L.is_sound self.new.log) }
         ensures kept { KeepsAll (ShowsBy M.rules L.is_sound L.answers L.leaves self.old.log self.old.recent) (ShowsBy M.rules L.is_sound L.answers L.leaves self.new.log self.new.recent) }
+        ensures met { L.meets self.old.log self.new.log (option_and_then log_fault (result_err result)) }
     {
         let value = self.get(group, b"vote")?;
         Ok(vote_of(value)?)
@@ -151,6 +144,7 @@ impl<M: StateMachine, L: ContentLog> Store<M, L> {
             → MatchResult result (λ found. found.items ≡ take (places.end - places.start) (drop (places.start - first_place s) s.log)) IsLogOrMemory }
         ensures well { L.is_sound self.old.log → OnOk result (L.is_sound self.new.log) }
         ensures kept { KeepsAll (ShowsBy M.rules L.is_sound L.answers L.leaves self.old.log self.old.recent) (ShowsBy M.rules L.is_sound L.answers L.leaves self.new.log self.new.recent) }
+        ensures met { L.meets self.old.log self.new.log (option_and_then log_fault (result_err result)) }
     {
         if places.is_empty() {
             return Ok(Vec::new(alloc));
@@ -193,6 +187,7 @@ impl<M: StateMachine, L: ContentLog> Store<M, L> {
         ensures cause { (s : StoredGroup) → L.is_sound self.old.log → ShowsBy M.rules L.is_sound L.answers L.leaves self.old.log self.old.recent group (s ∷ [])
             → IfErr result IsLogOrMemory }
         ensures kept { KeepsAll (ShowsBy M.rules L.is_sound L.answers L.leaves self.old.log self.old.recent) (ShowsBy M.rules L.is_sound L.answers L.leaves self.new.log self.new.recent) }
+        ensures met { L.meets self.old.log self.new.log (option_and_then log_fault (result_err result)) }
     {
         let value = self.get(group, b"snapshot")?;
         Ok(snapshot_of(alloc, value)?)
@@ -214,13 +209,14 @@ impl<M: StateMachine, L: ContentLog> Store<M, L> {
         ensures cause { (s : StoredGroup) → L.is_sound self.old.log → ShowsBy M.rules L.is_sound L.answers L.leaves self.old.log self.old.recent group (s ∷ [])
             → IfErr result IsLogOrMemory }
         ensures kept { KeepsAll (ShowsBy M.rules L.is_sound L.answers L.leaves self.old.log self.old.recent) (ShowsBy M.rules L.is_sound L.answers L.leaves self.new.log self.new.recent) }
+        ensures met { L.meets self.old.log self.new.log (option_and_then log_fault (result_err result)) }
     {
         if let Some(entries) = self.recalled(alloc, group, prev, last)? {
-            return Ok(as_sent(alloc, entries)?);
+            return Ok(Entries::from_vec(entries));
         }
         let bounds = self.bounds(group)?;
         let entries = self.entries(alloc, group, bounds.between(prev, last))?;
-        Ok(as_sent(alloc, entries)?)
+        Ok(Entries::from_vec(entries))
     }
 
     /// A copy of what is stored of the group, but for what its snapshot has (own). Stored bytes that
@@ -232,6 +228,7 @@ impl<M: StateMachine, L: ContentLog> Store<M, L> {
         ensures cause { (s : StoredGroup) → L.is_sound self.old.log → ShowsBy M.rules L.is_sound L.answers L.leaves self.old.log self.old.recent group (s ∷ [])
             → IfErr result IsLogOrMemory }
         ensures kept { KeepsAll (ShowsBy M.rules L.is_sound L.answers L.leaves self.old.log self.old.recent) (ShowsBy M.rules L.is_sound L.answers L.leaves self.new.log self.new.recent) }
+        ensures met { L.meets self.old.log self.new.log (option_and_then log_fault (result_err result)) }
     {
         let bounds = self.bounds(group)?;
         let present = self.is_present(group)?;
@@ -254,6 +251,7 @@ impl<M: StateMachine, L: ContentLog> Store<M, L> {
         ensures ok { (group : ℕ) (s : StoredGroup) → L.is_sound self.old.log → ShowsBy M.rules L.is_sound L.answers L.leaves self.old.log self.old.recent group (s ∷ [])
             → IfOk result (λ ids. is_member (eq_by_cmp nat_cmp) ids.items group ≡ s.present) }
         ensures kept { KeepsAll (ShowsBy M.rules L.is_sound L.answers L.leaves self.old.log self.old.recent) (ShowsBy M.rules L.is_sound L.answers L.leaves self.new.log self.new.recent) }
+        ensures met { L.meets self.old.log self.new.log (option_and_then log_fault (result_err result)) }
     {
         let logged = self.logged_groups()?;
         self.made_among(alloc, logged)
@@ -268,6 +266,7 @@ impl<M: StateMachine, L: ContentLog> Store<M, L> {
         ensures ids { L.is_sound self.old.log → IfOk result (λ ids. ids.items ≡ filter (λ group. is_some ((L.answers self.old.log group).value group_key)) groups.items) }
         ensures well { L.is_sound self.old.log → OnOk result (L.is_sound self.new.log) }
         ensures kept { KeepsAll (ShowsBy M.rules L.is_sound L.answers L.leaves self.old.log self.old.recent) (ShowsBy M.rules L.is_sound L.answers L.leaves self.new.log self.new.recent) }
+        ensures met { L.meets self.old.log self.new.log (option_and_then log_fault (result_err result)) }
     {
         let mut made = Vec::new(alloc);
         for group in groups {
@@ -286,6 +285,7 @@ impl<M: StateMachine, L: ContentLog> Store<M, L> {
         ensures well { L.is_sound self.old.log → OnOk result (L.is_sound self.new.log) }
         ensures steady { L.is_sound self.new.log → L.is_sound self.old.log × (L.answers self.new.log ≡ L.answers self.old.log) }
         ensures kept { KeepsAll (ShowsBy M.rules L.is_sound L.answers L.leaves self.old.log self.old.recent) (ShowsBy M.rules L.is_sound L.answers L.leaves self.new.log self.new.recent) }
+        ensures met { L.meets self.old.log self.new.log (option_and_then log_fault (result_err result)) }
     {
         match self.log.groups() {
             Ok(groups) => Ok(groups),

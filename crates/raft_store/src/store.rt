@@ -1,5 +1,6 @@
 //! A node's groups in a log.
-ghost use Rattle.std.specs.Prelude.{◌≡◌, ℕ, List, [], ◌∷◌, None, OnOk, OnErr};
+ghost use Rattle.std.specs.Prelude.{◌≡◌, ℕ, List, [], ◌∷◌, None, OnOk, OnErr, option_and_then};
+ghost use Rattle.std.specs.Result.{result_err};
 ghost use Rattle.raft_group_step.specs.StoredGroup.{Snapshot, StoredGroup};
 ghost use Rattle.raft_group_step.specs.StoredGroup.{CutFrom, MakeGroup, PutEntries, RemoveUpTo, SetSnapshot, SetVote, StartAfter};
 ghost use Rattle.raft_content_log.specs.Leaving.{LeavesOnly};
@@ -8,6 +9,7 @@ ghost use Rattle.raft_group_storage.specs.Keeping.{KeepsOthers, MayStore, Stores
 ghost use Rattle.raft_log_memtables.specs.Content.{nothing};
 ghost use Rattle.raft_log_records.specs.Item.{Change};
 ghost use Rattle.raft_store.specs.Batches.{Carries, ShowsBy, of_group};
+ghost use Rattle.raft_store.specs.Faults.{log_fault};
 ghost use Rattle.raft_store.specs.Reading.{HoldsOne, StandsFor};
 
 use crate::batches::{
@@ -79,6 +81,7 @@ impl<M: StateMachine, L: ContentLog> Store<M, L> {
         ensures others { (group : ℕ) (changes : List (Change (List ℕ))) → batch.old.items ≡ of_group group changes
             → KeepsOthers (ShowsBy M.rules L.is_sound L.answers L.leaves self.old.log self.old.recent) (ShowsBy M.rules L.is_sound L.answers L.leaves self.new.log self.new.recent) group }
         ensures forgets { self.new.recent ≡ None }
+        ensures met { L.meets self.old.log self.new.log (option_and_then log_fault (result_err result)) }
     {
         self.recent = None;
         match self.log.write(batch) {
@@ -98,6 +101,7 @@ impl<M: StateMachine, L: ContentLog> Store<M, L> {
             (ShowsBy M.rules L.is_sound L.answers L.leaves self.new.log self.new.recent) group MakeGroup) }
         ensures others { KeepsOthers (ShowsBy M.rules L.is_sound L.answers L.leaves self.old.log self.old.recent)
             (ShowsBy M.rules L.is_sound L.answers L.leaves self.new.log self.new.recent) group }
+        ensures met { L.meets self.old.log self.new.log (option_and_then log_fault (result_err result)) }
     {
         let mut batch = make_batch(self.alloc, group)?;
         self.store(&mut batch)
@@ -114,6 +118,7 @@ impl<M: StateMachine, L: ContentLog> Store<M, L> {
             (ShowsBy M.rules L.is_sound L.answers L.leaves self.new.log self.new.recent) group (SetVote vote)) }
         ensures others { KeepsOthers (ShowsBy M.rules L.is_sound L.answers L.leaves self.old.log self.old.recent)
             (ShowsBy M.rules L.is_sound L.answers L.leaves self.new.log self.new.recent) group }
+        ensures met { L.meets self.old.log self.new.log (option_and_then log_fault (result_err result)) }
     {
         let mut batch = vote_batch(self.alloc, group, vote)?;
         self.store(&mut batch)
@@ -134,6 +139,7 @@ impl<M: StateMachine, L: ContentLog> Store<M, L> {
             (ShowsBy M.rules L.is_sound L.answers L.leaves self.new.log self.new.recent) group (SetSnapshot x)) }
         ensures others { KeepsOthers (ShowsBy M.rules L.is_sound L.answers L.leaves self.old.log self.old.recent)
             (ShowsBy M.rules L.is_sound L.answers L.leaves self.new.log self.new.recent) group }
+        ensures met { L.meets self.old.log self.new.log (option_and_then log_fault (result_err result)) }
     {
         let mut batch = snapshot_batch(self.alloc, group, snapshot)?;
         self.store(&mut batch)
@@ -155,6 +161,7 @@ impl<M: StateMachine, L: ContentLog> Store<M, L> {
             (ShowsBy M.rules L.is_sound L.answers L.leaves self.new.log self.new.recent) group (PutEntries place entries.now)) }
         ensures others { KeepsOthers (ShowsBy M.rules L.is_sound L.answers L.leaves self.old.log self.old.recent)
             (ShowsBy M.rules L.is_sound L.answers L.leaves self.new.log self.new.recent) group }
+        ensures met { L.meets self.old.log self.new.log (option_and_then log_fault (result_err result)) }
     {
         let bounds = self.bounds(group)?;
         bounds.check_place(place)?;
@@ -175,6 +182,7 @@ impl<M: StateMachine, L: ContentLog> Store<M, L> {
             (ShowsBy M.rules L.is_sound L.answers L.leaves self.new.log self.new.recent) group (CutFrom place)) }
         ensures others { KeepsOthers (ShowsBy M.rules L.is_sound L.answers L.leaves self.old.log self.old.recent)
             (ShowsBy M.rules L.is_sound L.answers L.leaves self.new.log self.new.recent) group }
+        ensures met { L.meets self.old.log self.new.log (option_and_then log_fault (result_err result)) }
     {
         let bounds = self.bounds(group)?;
         let mut batch = end_batch(self.alloc, group, bounds.cut_end(place))?;
@@ -192,6 +200,7 @@ impl<M: StateMachine, L: ContentLog> Store<M, L> {
             (ShowsBy M.rules L.is_sound L.answers L.leaves self.new.log self.new.recent) group (StartAfter id)) }
         ensures others { KeepsOthers (ShowsBy M.rules L.is_sound L.answers L.leaves self.old.log self.old.recent)
             (ShowsBy M.rules L.is_sound L.answers L.leaves self.new.log self.new.recent) group }
+        ensures met { L.meets self.old.log self.new.log (option_and_then log_fault (result_err result)) }
     {
         let bounds = self.bounds(group)?;
         bounds.check_purge(id)?;
@@ -210,6 +219,7 @@ impl<M: StateMachine, L: ContentLog> Store<M, L> {
             (ShowsBy M.rules L.is_sound L.answers L.leaves self.new.log self.new.recent) group (RemoveUpTo id)) }
         ensures others { KeepsOthers (ShowsBy M.rules L.is_sound L.answers L.leaves self.old.log self.old.recent)
             (ShowsBy M.rules L.is_sound L.answers L.leaves self.new.log self.new.recent) group }
+        ensures met { L.meets self.old.log self.new.log (option_and_then log_fault (result_err result)) }
     {
         let bounds = self.bounds(group)?;
         bounds.check_purge(id)?;

@@ -17,6 +17,9 @@ use raft_messages::{
 use raft_state::{Bytes, EntryPayload};
 use std::alloc::{AllocError, Global};
 
+// Room for an entry with a short command, so that its bytes don't move as they are written.
+const ENTRY_ROOM: usize = 64;
+
 fn command_of(alloc: Global, bytes: &[u8]) -> Result<(Bytes, &[u8]), FrameError>
     ensures { Gives (λ x. (x.0, x.1.now)) result (text_at command_limit bytes.now) }
 {
@@ -141,7 +144,7 @@ fn entry_bytes(alloc: Global, entry: &GroupEntry) -> Result<Vec<u8>, AllocError>
     ensures items { IfOk result (λ v. v.items ≡ spelled_entry entry.now) }
     ensures fits { OnOk result (FitsEntry entry.now) }
 {
-    let mut out = Vec::new(alloc);
+    let mut out = Vec::with_capacity(alloc, ENTRY_ROOM)?;
     put_entry(&mut out, entry)?;
     Ok(out)
 }

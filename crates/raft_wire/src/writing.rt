@@ -32,6 +32,10 @@ use raft_messages::{
 use raft_state::{BasicNode, Bytes, Vote};
 use std::alloc::{AllocError, Global};
 
+// Room for a request with an entry of a short command, so that its bytes don't move as they are
+// written.
+const FRAME_ROOM: usize = 192;
+
 fn put_vote_request(out: &mut Vec<u8>, request: &VoteRequest<u64>) -> Result<(), AllocError>
     ensures items { OnOk result (out.new.items ≡ out.old.items ++ spelled_vote_request request.now) }
     ensures fits { OnOk result (FitsVoteRequest request.now) }
@@ -374,7 +378,7 @@ fn frame_bytes(alloc: Global, frame: &Frame) -> Result<Vec<u8>, AllocError>
     ensures items { IfOk result (λ v. v.items ≡ spelled_frame frame.now) }
     ensures fits { OnOk result (FitsFrame frame.now) }
 {
-    let mut out = Vec::new(alloc);
+    let mut out = Vec::with_capacity(alloc, FRAME_ROOM)?;
     out.extend_from_slice(&[0, 0, 0, 0])?;
     put_rest(&mut out, frame)?;
     set_length(&mut out);

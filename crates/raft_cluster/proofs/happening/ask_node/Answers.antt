@@ -2,12 +2,12 @@ use Rattle.std.proofs.Common.{ℕ, List, Ok, refl, subst}
 use Rattle.std.proofs.lemmas.Result.{IfOk-weaker, on_err_weaker}
 use Rattle.raft_sent_frames.specs.Frames.{frames_of}
 use Rattle.raft_cluster_events.specs.declared.event.ClusterEvent.{ClusterEvent}
-use Rattle.raft_cluster_events.specs.declared.event.ClusterEvent.TheVariants.{AddGroup, Ask, Deliver, ResetPeer, Fuse, Crash, Reopen}
+use Rattle.raft_cluster_events.specs.declared.event.ClusterEvent.TheVariants.{AddGroup, Ask, Deliver, ResetPeer, Clean, Fuse, Crash, Reopen}
 use Rattle.raft_cluster_events.specs.declared.outcome.CrashRefusal.TheVariants.{Memory}
 use Rattle.raft_node_laws.specs.Answered.{one_of, some_of}
 use Rattle.raft_cluster.specs.Facts.{delivered}
-use Rattle.raft_cluster.specs.Happening.{Delivers}
-use Rattle.raft_cluster.proofs.HappeningLemmas.{answered_as, comes_as_opening, comes_quietly, comes_to_group, refused_as}
+use Rattle.raft_cluster.specs.Happening.{Delivers, Did}
+use Rattle.raft_cluster.proofs.HappeningLemmas.{answered_as, comes_as_opening, comes_cleaned, comes_quietly, comes_to_group, refused_as}
 use Rattle.raft_cluster.proofs.happening.ask_node.Goals as goal
 
 pub returns-in-AddGroup-clause-ok : goal.returns-in-AddGroup-clause-ok
@@ -26,8 +26,8 @@ pub returns-in-Deliver-clause-ok : goal.returns-in-Deliver-clause-ok
 returns-in-Deliver-clause-ok g c =
     let named : ClusterEvent = Deliver c.in-Deliver.group c.in-Deliver.number c.in-Deliver.cuts c.in-Deliver.now in
     let mid = c.deliver_event-answered.new.node in
-    let P : ClusterEvent → Type 0 = λ e. Delivers g.N.ClusterNode.acts (delivered (frames_of c.args.sent.now) e) c.as_slice.result.now c.in-Deliver.now c.args.node.now (some_of c.deliver_event-answered.result) mid in
-    let Q : List ℕ → Type 0 = λ cuts. Delivers g.N.ClusterNode.acts (delivered (frames_of c.args.sent.now) named) cuts c.in-Deliver.now c.args.node.now (some_of c.deliver_event-answered.result) mid in
+    let P : ClusterEvent → Type 0 = λ e. Delivers g.N.ClusterNode.acts (delivered (frames_of c.args.sent.now) e) c.as_slice.result.now c.in-Deliver.now c.args.node.now (Did (some_of c.deliver_event-answered.result)) mid in
+    let Q : List ℕ → Type 0 = λ cuts. Delivers g.N.ClusterNode.acts (delivered (frames_of c.args.sent.now) named) cuts c.in-Deliver.now c.args.node.now (Did (some_of c.deliver_event-answered.result)) mid in
     comes_to_group g.N.ClusterNode.acts _ c.args.event.now named c.args.node.now mid c.deliver_event-answered.result (some_of c.deliver_event-answered.result) c.in-Deliver.is tt refl
     (subst Q c.as_slice.ensures (subst P c.in-Deliver.is c.deliver_event-answered.ensures.delivers)) c.deliver_event-answered.ensures.id
 
@@ -35,6 +35,11 @@ pub returns-in-ResetPeer-clause-ok : goal.returns-in-ResetPeer-clause-ok
 returns-in-ResetPeer-clause-ok g c =
     let named : ClusterEvent = ResetPeer c.in-ResetPeer.node c.in-ResetPeer.peer in
     comes_quietly g.N.ClusterNode.acts _ c.args.event.now named c.args.node.now c.reset_peer.new.self c.reset_peer.result c.in-ResetPeer.is (c.reset_peer.result, c.reset_peer.ensures.does, refl) c.reset_peer.ensures.id
+
+pub returns-in-Clean-clause-ok : goal.returns-in-Clean-clause-ok
+returns-in-Clean-clause-ok g c =
+    let named : ClusterEvent = Clean c.in-Clean.node in
+    comes_cleaned g.N.ClusterNode.acts _ c.args.event.now named c.args.node.now c.clean_files.new.self c.clean_files.result c.in-Clean.is (c.clean_files.result, c.clean_files.ensures.does, refl) c.clean_files.ensures.id
 
 pub returns-in-Fuse-clause-ok : goal.returns-in-Fuse-clause-ok
 returns-in-Fuse-clause-ok g c =

@@ -1,6 +1,6 @@
 use Rattle.raft_sent_frames.specs.Frames.{frames_of}
-use Rattle.raft_cluster.specs.declared.answer.Answer.TheVariants.{OfGroup, Opened, Quiet, Spared}
-use Rattle.raft_cluster.proofs.HappeningLemmas.{ends_as_opening, ends_in_group, ends_quietly, ends_spared, of_answer}
+use Rattle.raft_cluster.specs.declared.answer.Answer.TheVariants.{Cleaned, OfGroup, Opened, Quiet, Spared}
+use Rattle.raft_cluster.proofs.HappeningLemmas.{ends_as_opening, ends_cleaned, ends_in_group, ends_quietly, ends_spared, of_answer}
 use Rattle.raft_cluster.proofs.happening.settle.Goals as goal
 
 pub returns-in-OfGroup : goal.returns-in-OfGroup
@@ -14,6 +14,12 @@ returns-in-Quiet g c =
     λ event before.
     of_answer g.N.ClusterNode.acts (frames_of c.args.sent.now) event before c.args.node.now c.args.answer (Quiet c.in-Quiet.answered) _ c.in-Quiet.is
     (ends_quietly g.N.ClusterNode.acts (frames_of c.args.sent.now) event before c.args.node.now c.in-Quiet.answered c.settle_quietly.result c.settle_quietly.ensures)
+
+pub returns-in-Cleaned : goal.returns-in-Cleaned
+returns-in-Cleaned g c =
+    λ event before.
+    of_answer g.N.ClusterNode.acts (frames_of c.args.sent.now) event before c.args.node.now c.args.answer (Cleaned c.in-Cleaned.answered) _ c.in-Cleaned.is
+    (ends_cleaned g.N.ClusterNode.acts (frames_of c.args.sent.now) event before c.args.node.now c.in-Cleaned.answered c.settle_cleaning.result c.settle_cleaning.ensures)
 
 pub returns-in-Opened : goal.returns-in-Opened
 returns-in-Opened g c =

@@ -8,6 +8,7 @@ loop-command-init g c = (
   λ well. well,
   λ group parts shown. shown,
   λ s well shown vote. rw (c.iter_commands-left.ensures, c.new-all.ensures.items) ([], tt, refl),
+  g.met.S.GroupStorage.meets_none c.args.storage.now,
 )
 
 pub loop-command-preserved : goal.loop-command-preserved
@@ -25,4 +26,5 @@ loop-command-preserved g c = (
             ∙ (ap (λ left. before.0 ++ sent_by own s upto left) (sym c.in-Some.ensures.steps)
             ∙ before.2),
       ),
+  g.met.S.GroupStorage.meets_later _ _ _ _ c.loop-command.invariant.3 c.in_ok-push_sent.ensures.met,
 )

@@ -1,5 +1,5 @@
 -- What is sent, with what the commands that are left send, is what the queue sends.
-use Rattle.std.proofs.Common.{◌≡◌, List, [], ◌∷◌, ◌++◌, length}
+use Rattle.std.proofs.Common.{◌≡◌, List, [], ◌∷◌, ◌++◌, length, None}
 use Rattle.raft_group_step.specs.Message.{Message}
 use Rattle.raft_group_step.specs.StoredGroup.{StoredGroup}
 use Rattle.raft_engine.specs.Commands.{sent_by}
@@ -14,6 +14,7 @@ invariant-loop-command g l =
     × ((s : StoredGroup) → g.S.GroupStorage.is_well l.fn.storage → g.S.GroupStorage.shows l.fn.storage l.group (s ∷ []) → l.sender.vote ≡ s.vote
     → (said : List Message) × (SaysAll g.S.GroupStorage.stands l.all.items said)
     × (said ++ sent_by l.sender.own s l.sender.committed l.left ≡ sent_by l.sender.own s l.sender.committed l.queue.queue))
+    × g.S.GroupStorage.meets l.fn.storage l.storage None
 
 abbrev pub decreases-loop-command : goal.decreases-loop-command
 decreases-loop-command g l = length l.left

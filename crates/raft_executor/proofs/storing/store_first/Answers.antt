@@ -8,6 +8,7 @@ loop-command-init g c = (
   λ well. well,
   λ other parts differ shown. shown,
   λ x given well. rw c.iter_commands-left.ensures (given, nothing_yet _ _ _ _),
+  g.met.S.GroupStorage.meets_none c.args.storage.now,
 )
 
 pub loop-command-preserved : goal.loop-command-preserved
@@ -22,6 +23,7 @@ loop-command-preserved g c = (
             (c.in_ok-room.ensures.room x)
             (c.in_ok-room.ensures.ok x next.0 (c.loop-command.invariant.0 well)),
       ),
+  g.met.S.GroupStorage.meets_later _ _ _ _ c.loop-command.invariant.3 c.in_ok-room.ensures.met,
 )
 
 pub returns-clause-ok : goal.returns-clause-ok

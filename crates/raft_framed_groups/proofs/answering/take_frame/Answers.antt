@@ -14,13 +14,13 @@ returns-in-Ok-clause-takes g c = record {
   taken = λ m s going says up lawful.
       taken_as (λ met member. HasBegun (HasStopped (g.S.GroupStorage.shows c.receive.new.self.storage c.args.frame.now.group) c.args.groups.now.id s (Receive c.args.frame.now.message.sender m c.args.now) member) met) g.S.GroupStorage.stands (record { own = c.args.groups.now.id; has_failed = c.receive.new.self.has_failed; members = get nat_cmp c.receive.new.self.members; is_well = g.S.GroupStorage.is_well c.receive.new.self.storage; shows = g.S.GroupStorage.shows c.receive.new.self.storage })
       c.args.frame.now.group s (Receive c.args.frame.now.message.sender m c.args.now) c.in-Ok.ended c.outcome_of.result
-      (c.in-Ok.ensures.ok m s going says up lawful) c.outcome_of.ensures;
+      (c.in-Ok.ensures.ok m s going says up lawful) c.outcome_of.ensures.ended;
   of_group = record {
     others = λ other x apart stands none. c.in-Ok.ensures.others other x apart stands;
     kept = c.in-Ok.ensures.kept;
     failed = λ has. absurd (let no : Ok c.in-Ok.ended ≡ Err groups_fault.Failed = (c.in-Ok.ensures.failed has).0 in cc);
     unknown = λ going none. absurd (let no : Ok c.in-Ok.ended ≡ Err groups_fault.UnknownGroup = (c.in-Ok.ensures.unknown going none).0 in cc);
-    goes_on = ended_goes_on c.args.frame.now.group c.args.groups.now.has_failed c.receive.new.self.has_failed c.in-Ok.ended c.outcome_of.result c.outcome_of.ensures c.in-Ok.ensures.goes_on;
+    goes_on = ended_goes_on c.args.frame.now.group c.args.groups.now.has_failed c.receive.new.self.has_failed c.in-Ok.ended c.outcome_of.result c.outcome_of.ensures.ended c.in-Ok.ensures.goes_on;
   };
 }
 
@@ -37,7 +37,7 @@ returns-in-Err-clause-takes g c = record {
 }
 
 pub returns-in-Ok-clause-same : goal.returns-in-Ok-clause-same
-returns-in-Ok-clause-same g c = λ away. absurd (ended_came c.args.frame.now.group c.in-Ok.ended c.outcome_of.result c.outcome_of.ensures away)
+returns-in-Ok-clause-same g c = λ away. absurd (ended_came c.args.frame.now.group c.in-Ok.ended c.outcome_of.result c.outcome_of.ensures.ended away)
 
 pub returns-in-Err-clause-same : goal.returns-in-Err-clause-same
 returns-in-Err-clause-same g c = λ away. c.in-Err.ensures.same (groups_turned_away c.in-Err.fault away)

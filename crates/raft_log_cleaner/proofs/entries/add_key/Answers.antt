@@ -17,7 +17,7 @@ returns-in-Err g c =
 pub returns : goal.returns
 returns g c =
     let d = g.F.FileSystem.disk c.args.files.now in
-    added d c.args.pipes.now c.args.log.now (record c.args.log.now { traces = c.rewrite_key.new.traces }) c.args.writer.now.batch.items c.rewrite_key.new.batch.items tt refl
+    added d c.args.pipes.now c.args.log.now (record c.args.log.now { traces = c.rewrite_key.new.traces }) c.args.writer.now.batch.items c.rewrite_key.new.batch.items tt refl refl
     (λ content s.
     c.in-Ok.ensures.steps content (c.is_marked.ensures.not_cleaned c.if-not-is_marked.false)
     (group_there d c.args.pipes.now c.args.log.now c.args.writer.now.batch.items content s c.args.group (c.is_marked.ensures.there c.if-not-is_marked.false))

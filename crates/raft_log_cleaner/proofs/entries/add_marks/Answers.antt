@@ -7,7 +7,7 @@ use Rattle.raft_log_cleaner.proofs.entries.add_marks.Goals as goal
 pub returns-in-Ok : goal.returns-in-Ok
 returns-in-Ok g c =
     let d = g.F.FileSystem.disk c.args.files.now in
-    added d c.args.pipes.now c.args.log.now (record c.args.log.now { traces = c.mark_group.new.traces }) c.args.writer.now.batch.items c.mark_group.new.batch.items tt refl
+    added d c.args.pipes.now c.args.log.now (record c.args.log.now { traces = c.mark_group.new.traces }) c.args.writer.now.batch.items c.mark_group.new.batch.items tt refl refl
     (λ content s. c.in-Ok.ensures.steps content (are_there d c.args.pipes.now c.args.log.now c.args.writer.now.batch.items content s))
 
 pub returns-in-Err : goal.returns-in-Err

@@ -42,7 +42,7 @@ returns g c =
     let count : vec_len c.in_ok-entries.entries ≡ length c.in_ok-entries.entries.items = omega arith in
     let len : c.len.result ≡ length parts = c.len.ensures ∙ count ∙ sym (length-map c.in_ok-entries.entries.items (λ v. v.items)) in
     record {
-      goes_on = added d c.args.pipes.now c.args.log.now (record c.args.log.now { traces = c.rewrite_entries.new.traces }) c.args.writer.now.batch.items c.rewrite_entries.new.batch.items tt refl
+      goes_on = added d c.args.pipes.now c.args.log.now (record c.args.log.now { traces = c.rewrite_entries.new.traces }) c.args.writer.now.batch.items c.rewrite_entries.new.batch.items tt refl refl
           (λ content s.
           c.in-Ok.ensures.steps content
           (subst (λ l. IsFrontOf content (traces_in c.args.log.now.traces) group begin (payloads l)) (sym c.deref.ensures.value)

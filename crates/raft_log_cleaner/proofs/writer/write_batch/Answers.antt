@@ -9,6 +9,7 @@ use Rattle.raft_log_records.specs.Item.{items_of, with_bytes, with_lengths}
 use Rattle.raft_log_records.specs.Spelling.{block_of, lengths, spell_record}
 use Rattle.raft_log_file.specs.Laws.{Batch}
 use Rattle.raft_log_pipe.specs.Appending.{Appends, Stands}
+use Rattle.raft_log_pipe.specs.Pipe.{first_of}
 use Rattle.raft_log_memtables.specs.MemTables.{content_in}
 use Rattle.raft_log_recovery.proofs.LengthLemmas.{placed_lengths}
 use Rattle.raft_log_traced.specs.Places.{items_moved}
@@ -91,12 +92,14 @@ returns-clause-goes_on g c =
             lens = ap with_lengths c.drain-items.ensures.places ∙ placed_lengths 0 c.append.new.batch.items ∙ ap lengths later;
             moved = c.set_places.ensures.content ∙ ap (λ (l : List LogItem). items_moved c.place_of-place.result l (content_in c.args.log.now.tables)) c.deref.ensures.value;
             traces = c.set_places.ensures.traces;
+            parted = c.set_places.ensures.parted;
           }));
       err = λ content s. tt;
       append = c.in_ok-written.ensures.other;
       kept = record {
         append = pipe_as_before p.append q.append d e c.in_ok-written.ensures.other;
         rewrite = record { set = c.in_ok-written.ensures.set.1; paths = call.paths; alone = call.alone };
+        first = ap first_of c.in_ok-written.ensures.other.same;
       };
       left = λ content s. tt;
     }

@@ -1,6 +1,7 @@
 -- A sync where a write wasn't synced.
-use Rattle.std.proofs.Common.{sym, ◌∙◌}
+use Rattle.std.proofs.Common.{refl, sym, ◌∙◌}
 use Rattle.std.proofs.lemmas.Bool.{false≢true}
+use Rattle.raft_log_disk.proofs.RefusalLemmas.{no_more_same}
 use Rattle.raft_log_engine.proofs.Cleaned.{still_same, synced_holds}
 use Rattle.raft_log_engine.proofs.cleaning.sync_unsynced.Goals as goal
 
@@ -9,6 +10,12 @@ returns-then-not-wrote_unsynced-clause-still g c = still_same (g.F.FileSystem.di
 
 pub returns-then-not-wrote_unsynced-clause-synced : goal.returns-then-not-wrote_unsynced-clause-synced
 returns-then-not-wrote_unsynced-clause-synced g c = λ wrote. absurd (false≢true (sym c.if-not-wrote_unsynced.true ∙ wrote))
+
+pub returns-then-not-wrote_unsynced-clause-set : goal.returns-then-not-wrote_unsynced-clause-set
+returns-then-not-wrote_unsynced-clause-set g c = ((refl, refl), (refl, refl))
+
+pub returns-then-not-wrote_unsynced-clause-later : goal.returns-then-not-wrote_unsynced-clause-later
+returns-then-not-wrote_unsynced-clause-later g c = no_more_same _ _
 
 pub returns-clause-still : goal.returns-clause-still
 returns-clause-still g c =

@@ -132,6 +132,8 @@ returns-clause-ok g c =
           (all_queue Rewrite made [] all.2.rewrite.files all.2.rewrites all.2.rewrite.got) (all_queue Append made [] all.2.append.files all.2.appends all.2.append.got);
       unmarked = c.in_ok-traced.ensures.unmarked all.2.rewrites all.2.appends (subst (λ (l : List Placed). IsReplayedTraced c.in_ok-pipes.machine l) all.2.all_are all.1)
           (all_queue Append made [] all.2.append.files all.2.appends all.2.append.got);
+      together = (c.in_ok-traced.ensures.together all.2.rewrites all.2.appends (subst (λ (l : List Placed). IsReplayedTraced c.in_ok-pipes.machine l) all.2.all_are all.1)
+          (all_queue Rewrite made [] all.2.rewrite.files all.2.rewrites all.2.rewrite.got) (all_queue Append made [] all.2.append.files all.2.appends all.2.append.got)).0;
       placed = c.in_ok-traced.ensures.placed all.2.rewrites all.2.appends (subst (λ (l : List Placed). IsReplayedTraced c.in_ok-pipes.machine l) all.2.all_are all.1)
           (all_queue Rewrite made [] all.2.rewrite.files all.2.rewrites all.2.rewrite.got) (all_queue Append made [] all.2.append.files all.2.appends all.2.append.got);
     })))

@@ -4,6 +4,7 @@ use Rattle.std.specs.Prelude.{Result, Ok, Err, IfOk}
 use Rattle.raft_log_cleaner.proofs.Going.{when_err, when_ok}
 use Rattle.raft_log_cleaner.proofs.Gone.{counted, files_gone, none_from, rest_leaves}
 use Rattle.raft_log_cleaner.proofs.Keeping.{pipe_as_before}
+use Rattle.raft_log_cleaner.proofs.Stood.{gone_keeps, refused_to_go}
 use Rattle.raft_log_cleaner.proofs.manager.PurgeManager.purge_append_files.Goals as goal
 
 pub let_go-requires-after_bounds : goal.let_go-requires-after_bounds
@@ -30,3 +31,17 @@ returns-clause-count g c = counted c.let_go.result c.let_go.ensures.call.0 c.arg
 pub returns-clause-kept : goal.returns-clause-kept
 returns-clause-kept g c =
     pipe_as_before c.args.pipes.now.rewrite c.let_go.new.pipes.rewrite (g.F.FileSystem.disk c.args.files.now) (g.F.FileSystem.disk c.let_go.new.files) c.let_go.ensures.other
+
+pub returns-clause-both : goal.returns-clause-both
+returns-clause-both g c =
+    let met = g.met.F.FileSystem g.world.𝓛 g.world.𝓜 g.world.𝓡 ((λ s x. x), (λ x. x), (λ x. x), λ x. x) in
+    let call = c.let_go.ensures.call in
+    gone_keeps (g.F.FileSystem.disk c.args.files.now) (g.F.FileSystem.disk c.let_go.new.files) c.args.pipes.now c.let_go.new.pipes c.args.log.now call.0 c.let_go.result c.args.barrier (met.is_named c.args.files.now) (met.is_named c.let_go.new.files) call.1 call.2
+    c.let_go.ensures.set.0 c.let_go.ensures.other
+
+pub returns-clause-stands : goal.returns-clause-stands
+returns-clause-stands g c =
+    let met = g.met.F.FileSystem g.world.𝓛 g.world.𝓜 g.world.𝓡 ((λ s x. x), (λ x. x), (λ x. x), λ x. x) in
+    let call = c.let_go.ensures.call in
+    refused_to_go (g.F.FileSystem.disk c.args.files.now) (g.F.FileSystem.disk c.let_go.new.files) c.args.pipes.now c.let_go.new.pipes c.args.log.now call.0 c.let_go.result c.args.barrier (met.is_named c.args.files.now) (met.is_named c.let_go.new.files) call.1 call.2
+    c.let_go.ensures.set.0 c.let_go.ensures.other

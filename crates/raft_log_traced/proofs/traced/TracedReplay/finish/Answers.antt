@@ -1,8 +1,9 @@
-use Rattle.std.proofs.Common.{◌++◌, sym, ◌∙◌}
+use Rattle.std.proofs.Common.{◌++◌, refl, sym, ◌∙◌}
 use Rattle.raft_log_memtables.specs.MemTables.{content_in, reach_in}
 use Rattle.raft_log_traces.specs.GroupTraces.{traces_in}
 use Rattle.raft_log_traced.proofs.ReplayedLemmas.{cleaned_by_traces}
 use Rattle.raft_log_traced.proofs.MarkedLemmas.{all_unmarked}
+use Rattle.raft_log_traced.proofs.PartedLemmas.{told_of_all}
 use Rattle.raft_log_traced.proofs.traced.TracedReplay.finish.Goals as goal
 
 pub returns-clause-cleanable : goal.returns-clause-cleanable
@@ -26,3 +27,6 @@ returns-clause-marked c = λ placed has. has.marked
 
 pub returns-clause-unmarked : goal.returns-clause-unmarked
 returns-clause-unmarked c = λ rewrites appends has of_append none. all_unmarked rewrites appends of_append (sym has.marked ∙ none)
+
+pub returns-clause-together : goal.returns-clause-together
+returns-clause-together c = λ rewrites appends has of_rewrite of_append. told_of_all rewrites appends c.args.self.together c.stand-is_parted.result _ of_rewrite of_append has.together refl c.stand-is_parted.ensures

@@ -1,4 +1,4 @@
-use Rattle.std.proofs.Common.{List, ◌||◌, refl, sym, ap, subst, ◌∙◌}
+use Rattle.std.proofs.Common.{List, [], ◌∷◌, ◌++◌, ◌||◌, refl, sym, ap, subst, ◌∙◌}
 use Rattle.raft_log_memtables.proofs.Cells.{on_ok}
 use Rattle.raft_log_covers.specs.Kept.{Traces, new_trace, traces_after}
 use Rattle.raft_log_records.specs.declared.item.LogItem.{LogItem}
@@ -10,8 +10,10 @@ use Rattle.raft_log_replay.specs.Batches.{HasReplayed}
 use Rattle.raft_log_traces.specs.Alike.{AreAlike}
 use Rattle.raft_log_traces.specs.GroupTraces.{traces_in}
 use Rattle.raft_log_traced.specs.declared.traced.TracedReplay.{TracedReplay}
-use Rattle.raft_log_traced.specs.Traced.{traces_over}
+use Rattle.raft_log_purge.specs.Together.{Tells}
+use Rattle.raft_log_traced.specs.Traced.{rewrites_in, traces_over}
 use Rattle.raft_log_traced.proofs.MarkedLemmas.{append_noted, rewrite_noted}
+use Rattle.raft_log_traced.proofs.PartedLemmas.{append_told, rewrite_told}
 use Rattle.raft_log_traced.proofs.TraceLemmas.{appended, rewritten}
 use Rattle.raft_log_traced.proofs.traced.TracedReplayReplayMachine.replay.Goals.{in-Append+in_ok-apply-in-Append, in-Rewrite}
 use Rattle.raft_log_traced.proofs.traced.TracedReplayReplayMachine.replay.Goals as goal
@@ -31,11 +33,15 @@ returns-clause-replayed c = on_ok c.replay.result c.replay.ensures.replayed
             tables = step placed (subst (λ (m : TracedReplay). HasReplayed m.replayed placed) (sym w.self-is) has.tables);
             traces = appended placed p none old (traces_in c.match-handle.self.traces) w.in-Append.is has.traces now;
             marked = append_noted placed p c.args.batch.items.items c.args.self.now.has_marked c.match-handle.self.has_marked w.in-Append.is refl has.marked (ap (λ (m : TracedReplay). m.has_marked) w.self-is ∙ w.with_marks-self.ensures ∙ ap (λ (l : List LogItem). c.args.self.now.has_marked || list_any (λ item. holds_mark (item_of item)) l) w.deref.ensures.value);
+            together = append_told placed p c.match-handle.self.together w.in-Append.is (subst (λ (m : TracedReplay). Tells m.together (rewrites_in placed)) (sym w.self-is) has.together);
           }
       | in-Rewrite w ↦
           record {
             tables = step placed (subst (λ (m : TracedReplay). HasReplayed m.replayed placed) (sym w.self-is) has.tables);
             traces = rewritten placed p none (traces_in c.match-handle.self.traces) w.in-Rewrite.is (subst (λ (m : TracedReplay). AreAlike (traces_over placed none) (traces_in m.traces)) (sym w.self-is) has.traces);
             marked = rewrite_noted placed p c.match-handle.self.has_marked w.in-Rewrite.is (ap (λ (m : TracedReplay). m.has_marked) w.self-is ∙ has.marked);
+            together = rewrite_told placed p c.match-handle.self.together w.in-Rewrite.is
+                (subst (λ (m : TracedReplay). Tells m.together (rewrites_in placed ++ p.items ∷ [])) (sym w.self-is)
+                (subst (λ (l : List LogItem). Tells w.add.new.self (rewrites_in placed ++ items_of l ∷ [])) w.deref-in-Rewrite.ensures.value (w.add.ensures (rewrites_in placed) has.together)));
           }
     ])

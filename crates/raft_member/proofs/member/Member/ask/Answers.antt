@@ -1,42 +1,47 @@
--- The call ends so at the member with its engine put back.
-use Rattle.std.specs.Prelude.{OnErr, Result, Ok, Err}
-use Rattle.std.proofs.Common.{◌≡◌, Some, None, sym, ◌∙◌, subst}
+-- The call ends so at the member whose engine stayed in its place.
+use Rattle.std.proofs.Common.{◌≡◌, Some, refl, sym, ap, ◌∙◌, subst}
 use Rattle.raft_group_step.specs.GroupEvent.{Call}
-use Rattle.raft_group_step.specs.Refusal.{refusal_of}
 use Rattle.raft_member.specs.Member.{Engine, HasEnded, IsIdle}
 use Rattle.raft_member.specs.declared.member.Member.{Member}
+use Rattle.raft_member.proofs.HearingLemmas.{left_id}
 use Rattle.raft_member.proofs.member.Member.ask.Goals as goal
 
-pub returns-clause-ok : goal.returns-clause-ok
-returns-clause-ok g c = λ s built up lawful.
+pub returns-in-Ok-clause-ok : goal.returns-in-Ok-clause-ok
+returns-in-Ok-clause-ok g c = λ s built up lawful.
     let own = c.args.self.now.id in
     let event = Call c.args.call.now c.args.now in
     let stands = g.S.GroupStorage.stands in
     let is_well = g.S.GroupStorage.is_well c.call.new.storage in
     let shown = g.S.GroupStorage.shows c.call.new.storage c.args.group in
-    let both : Some up.engine ≡ Some c.in-Some.engine = sym up.has_engine ∙ sym c.take.ensures.value ∙ c.in-Some.is in
+    let both : Some up.engine ≡ Some c.in-Some.engine = sym up.has_engine ∙ c.in-Some.is in
     let same : up.engine ≡ c.in-Some.engine = cc in
     let idle = subst (λ (e : Engine). IsIdle own e s) same up.idle in
-    subst (λ (m : Member). HasEnded stands is_well shown own s event c.args.stop m c.in_ok-ended.ended) (sym c.put_back.ensures)
-    (c.in_ok-ended.ensures.ok s built
+    let left = c.join.ensures c.call.new.engine refl c.call.ensures.id in
+    subst (λ (m : Member). HasEnded stands is_well shown own s event c.args.stop m c.in-Ok.ended) (sym left)
+    (c.in-Ok.ensures.ok s built
     (record {
-      no_engine = c.take.ensures.after;
+      no_engine = refl;
       well = up.well;
       stored = up.stored;
       present = up.present;
     })
     up.moment idle lawful)
 
--- what holds in any case holds at an error
-in_any_case : {T E P : Type 0} (r : Result T E) → P → OnErr r P
-in_any_case (Ok x) p = tt
-in_any_case (Err e) p = p
+pub returns-in-Ok-clause-id : goal.returns-in-Ok-clause-id
+returns-in-Ok-clause-id g c =
+    ap (λ (m : Member). m.id) (c.join.ensures c.call.new.engine refl c.call.ensures.id) ∙ left_id c.in-Ok.ended c.call.new.engine c.call.new.self ∙ c.call.ensures.id
 
-pub returns-in_err-ended-clause-taken : goal.returns-in_err-ended-clause-taken
-returns-in_err-ended-clause-taken g c = λ s up lawful.
+pub returns-in-Err-clause-err : goal.returns-in-Err-clause-err
+returns-in-Err-clause-err g c = λ s built up lawful.
     let own = c.args.self.now.id in
-    let both : Some up.engine ≡ Some c.in-Some.engine = sym up.has_engine ∙ sym c.take.ensures.value ∙ c.in-Some.is in
+    let both : Some up.engine ≡ Some c.in-Some.engine = sym up.has_engine ∙ c.in-Some.is in
     let same : up.engine ≡ c.in-Some.engine = cc in
-    let taken : refusal_of own s (Call c.args.call.now c.args.now) ≡ None =
-    c.in_err-ended.ensures.taken s up.present (subst (λ (e : Engine). IsIdle own e s) same up.idle) lawful in
-    in_any_case c.from_residual.result taken
+    let idle = subst (λ (e : Engine). IsIdle own e s) same up.idle in
+    c.in-Err.ensures.err s built
+    (record {
+      no_engine = refl;
+      well = up.well;
+      stored = up.stored;
+      present = up.present;
+    })
+    up.moment idle lawful

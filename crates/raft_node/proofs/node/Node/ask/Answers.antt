@@ -10,8 +10,8 @@ use Rattle.raft_node.specs.Standing.{NodeValue, value_of}
 use Rattle.raft_node.proofs.Events.{Passes, asked_reaches, failed_event, none_brought, of_group_now, reach_elsewhere, runs_by, taken_now, unknown_event, with_own}
 use Rattle.raft_node.proofs.node.Node.ask.Goals as goal
 
-pub returns : goal.returns
-returns g c = λ none not_snapshot.
+pub returns-clause-event : goal.returns-clause-event
+returns-clause-event g c = λ none not_snapshot.
     let old : NodeValue = (value_of g.M.StateMachine.state g.S.GroupStorage.is_well g.S.GroupStorage.shows c.args.self.now) in
     let mid : NodeValue = (value_of g.M.StateMachine.state g.S.GroupStorage.is_well g.S.GroupStorage.shows (record c.args.self.now { groups = c.ask_group-answered.new.groups })) in
     let new : NodeValue = (value_of g.M.StateMachine.state g.S.GroupStorage.is_well g.S.GroupStorage.shows c.settle.new.self) in

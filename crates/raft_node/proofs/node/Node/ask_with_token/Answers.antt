@@ -20,8 +20,8 @@ use Rattle.raft_node.proofs.Events.{Reaches, asked_reaches, of_group_now, reach_
 use Rattle.raft_node.proofs.Tokens.{ok_holds}
 use Rattle.raft_node.proofs.node.Node.ask_with_token.Goals as goal
 
-pub returns : goal.returns
-returns g c = λ one.
+pub returns-clause-event : goal.returns-clause-event
+returns-clause-event g c = λ one.
     let old : NodeValue = (value_of g.M.StateMachine.state g.S.GroupStorage.is_well g.S.GroupStorage.shows c.args.self.now) in
     let waiting : NodeValue = (value_of g.M.StateMachine.state g.S.GroupStorage.is_well g.S.GroupStorage.shows c.take_token.new.self) in
     let mid : NodeValue = (value_of g.M.StateMachine.state g.S.GroupStorage.is_well g.S.GroupStorage.shows (record c.take_token.new.self { groups = c.ask_group-answered.new.groups })) in

@@ -22,9 +22,9 @@ pub returns-in-Ok-clause-next : goal.returns-in-Ok-clause-next
 returns-in-Ok-clause-next g c =
     let is : c.read_piece-used.result.frame ≡ Ok (Some c.in-Ok-Some.frame) = c.in-Ok-Some.is ∙ ap Ok c.in-Ok-Some.field-0-is in
     inl (takes g.row.S-Fault.Denot g.M.StateMachine.rules g.S.GroupStorage.stands (value_of g.M.StateMachine.state g.S.GroupStorage.is_well g.S.GroupStorage.shows c.args.self.now) (value_of g.M.StateMachine.state g.S.GroupStorage.is_well g.S.GroupStorage.shows c.take_frame.new.self) c.args.peer c.args.now c.args.piece.now c.read_piece-used.result.used (Ok (Some c.in-Ok.outcome))
-    (λ p. feeding_of (get nat_cmp c.make_room.new.feeders p)) (λ p. feeding_of (get nat_cmp c.read_piece-used.new.feeders p)) c.make_room.ensures.same (λ p. c.take_frame.ensures.elsewhere.streams p) c.read_piece-used.result.frame c.read_piece-used.ensures.answers c.read_piece-used.ensures.spelled
+    (λ p. feeding_of (get nat_cmp c.make_room.new.feeders p)) (λ p. feeding_of (get nat_cmp c.read_piece-used.new.feeders p)) c.make_room.ensures.same (λ p. c.take_frame.ensures.frame.elsewhere.streams p) c.read_piece-used.result.frame c.read_piece-used.ensures.answers c.read_piece-used.ensures.spelled
     (λ other apart. ap feeding_of (c.read_piece-used.ensures.others other apart))
-    (subst (λ r. IsReadAs {F = g.row.S-Fault.Denot} g.M.StateMachine.rules g.S.GroupStorage.stands (value_of g.M.StateMachine.state g.S.GroupStorage.is_well g.S.GroupStorage.shows c.args.self.now) (value_of g.M.StateMachine.state g.S.GroupStorage.is_well g.S.GroupStorage.shows c.take_frame.new.self) c.args.peer c.args.now r (Ok (Some c.in-Ok.outcome))) (sym is) (fed_frame g.M.StateMachine.rules g.S.GroupStorage.stands (c.take_frame.new.self ≡ (record c.args.self.now { feeders = c.read_piece-used.new.feeders })) (StaysBut (value_of g.M.StateMachine.state g.S.GroupStorage.is_well g.S.GroupStorage.shows c.args.self.now) (value_of g.M.StateMachine.state g.S.GroupStorage.is_well g.S.GroupStorage.shows c.take_frame.new.self) c.args.peer) (value_of g.M.StateMachine.state g.S.GroupStorage.is_well g.S.GroupStorage.shows c.args.self.now) (value_of g.M.StateMachine.state g.S.GroupStorage.is_well g.S.GroupStorage.shows c.take_frame.new.self) (λ p. feeding_of (get nat_cmp c.read_piece-used.new.feeders p)) c.args.peer c.in-Ok-Some.frame c.args.now (Ok c.in-Ok.outcome) (λ back. same_but g.M.StateMachine.state g.S.GroupStorage.is_well g.S.GroupStorage.shows c.args.peer c.args.self.now (record c.args.self.now { feeders = c.read_piece-used.new.feeders }) c.take_frame.new.self refl refl back) c.in-Ok.ensures)))
+    (subst (λ r. IsReadAs {F = g.row.S-Fault.Denot} g.M.StateMachine.rules g.S.GroupStorage.stands (value_of g.M.StateMachine.state g.S.GroupStorage.is_well g.S.GroupStorage.shows c.args.self.now) (value_of g.M.StateMachine.state g.S.GroupStorage.is_well g.S.GroupStorage.shows c.take_frame.new.self) c.args.peer c.args.now r (Ok (Some c.in-Ok.outcome))) (sym is) (fed_frame g.M.StateMachine.rules g.S.GroupStorage.stands (c.take_frame.new.self ≡ (record c.args.self.now { feeders = c.read_piece-used.new.feeders })) (StaysBut (value_of g.M.StateMachine.state g.S.GroupStorage.is_well g.S.GroupStorage.shows c.args.self.now) (value_of g.M.StateMachine.state g.S.GroupStorage.is_well g.S.GroupStorage.shows c.take_frame.new.self) c.args.peer) (value_of g.M.StateMachine.state g.S.GroupStorage.is_well g.S.GroupStorage.shows c.args.self.now) (value_of g.M.StateMachine.state g.S.GroupStorage.is_well g.S.GroupStorage.shows c.take_frame.new.self) (λ p. feeding_of (get nat_cmp c.read_piece-used.new.feeders p)) c.args.peer c.in-Ok-Some.frame c.args.now (Ok c.in-Ok.outcome) (λ back. same_but g.M.StateMachine.state g.S.GroupStorage.is_well g.S.GroupStorage.shows c.args.peer c.args.self.now (record c.args.self.now { feeders = c.read_piece-used.new.feeders }) c.take_frame.new.self refl refl back) c.in-Ok.ensures.frame)))
 
 pub returns-in-Ok-clause-progress : goal.returns-in-Ok-clause-progress
 returns-in-Ok-clause-progress g c =
@@ -37,9 +37,9 @@ pub returns-in-Ok-Some-clause-next : goal.returns-in-Ok-Some-clause-next
 returns-in-Ok-Some-clause-next g c =
     let is : c.read_piece-used.result.frame ≡ Ok (Some c.in-Ok-Some.frame) = c.in-Ok-Some.is ∙ ap Ok c.in-Ok-Some.field-0-is in
     inl (takes g.row.S-Fault.Denot g.M.StateMachine.rules g.S.GroupStorage.stands (value_of g.M.StateMachine.state g.S.GroupStorage.is_well g.S.GroupStorage.shows c.args.self.now) (value_of g.M.StateMachine.state g.S.GroupStorage.is_well g.S.GroupStorage.shows c.take_frame.new.self) c.args.peer c.args.now c.args.piece.now c.read_piece-used.result.used (Err c.in-Err-take_frame.fault)
-    (λ p. feeding_of (get nat_cmp c.make_room.new.feeders p)) (λ p. feeding_of (get nat_cmp c.read_piece-used.new.feeders p)) c.make_room.ensures.same (λ p. c.take_frame.ensures.elsewhere.streams p) c.read_piece-used.result.frame c.read_piece-used.ensures.answers c.read_piece-used.ensures.spelled
+    (λ p. feeding_of (get nat_cmp c.make_room.new.feeders p)) (λ p. feeding_of (get nat_cmp c.read_piece-used.new.feeders p)) c.make_room.ensures.same (λ p. c.take_frame.ensures.frame.elsewhere.streams p) c.read_piece-used.result.frame c.read_piece-used.ensures.answers c.read_piece-used.ensures.spelled
     (λ other apart. ap feeding_of (c.read_piece-used.ensures.others other apart))
-    (subst (λ r. IsReadAs {F = g.row.S-Fault.Denot} g.M.StateMachine.rules g.S.GroupStorage.stands (value_of g.M.StateMachine.state g.S.GroupStorage.is_well g.S.GroupStorage.shows c.args.self.now) (value_of g.M.StateMachine.state g.S.GroupStorage.is_well g.S.GroupStorage.shows c.take_frame.new.self) c.args.peer c.args.now r (Err c.in-Err-take_frame.fault)) (sym is) (fed_frame g.M.StateMachine.rules g.S.GroupStorage.stands (c.take_frame.new.self ≡ (record c.args.self.now { feeders = c.read_piece-used.new.feeders })) (StaysBut (value_of g.M.StateMachine.state g.S.GroupStorage.is_well g.S.GroupStorage.shows c.args.self.now) (value_of g.M.StateMachine.state g.S.GroupStorage.is_well g.S.GroupStorage.shows c.take_frame.new.self) c.args.peer) (value_of g.M.StateMachine.state g.S.GroupStorage.is_well g.S.GroupStorage.shows c.args.self.now) (value_of g.M.StateMachine.state g.S.GroupStorage.is_well g.S.GroupStorage.shows c.take_frame.new.self) (λ p. feeding_of (get nat_cmp c.read_piece-used.new.feeders p)) c.args.peer c.in-Ok-Some.frame c.args.now (Err c.in-Err-take_frame.fault) (λ back. same_but g.M.StateMachine.state g.S.GroupStorage.is_well g.S.GroupStorage.shows c.args.peer c.args.self.now (record c.args.self.now { feeders = c.read_piece-used.new.feeders }) c.take_frame.new.self refl refl back) c.in-Err-take_frame.ensures)))
+    (subst (λ r. IsReadAs {F = g.row.S-Fault.Denot} g.M.StateMachine.rules g.S.GroupStorage.stands (value_of g.M.StateMachine.state g.S.GroupStorage.is_well g.S.GroupStorage.shows c.args.self.now) (value_of g.M.StateMachine.state g.S.GroupStorage.is_well g.S.GroupStorage.shows c.take_frame.new.self) c.args.peer c.args.now r (Err c.in-Err-take_frame.fault)) (sym is) (fed_frame g.M.StateMachine.rules g.S.GroupStorage.stands (c.take_frame.new.self ≡ (record c.args.self.now { feeders = c.read_piece-used.new.feeders })) (StaysBut (value_of g.M.StateMachine.state g.S.GroupStorage.is_well g.S.GroupStorage.shows c.args.self.now) (value_of g.M.StateMachine.state g.S.GroupStorage.is_well g.S.GroupStorage.shows c.take_frame.new.self) c.args.peer) (value_of g.M.StateMachine.state g.S.GroupStorage.is_well g.S.GroupStorage.shows c.args.self.now) (value_of g.M.StateMachine.state g.S.GroupStorage.is_well g.S.GroupStorage.shows c.take_frame.new.self) (λ p. feeding_of (get nat_cmp c.read_piece-used.new.feeders p)) c.args.peer c.in-Ok-Some.frame c.args.now (Err c.in-Err-take_frame.fault) (λ back. same_but g.M.StateMachine.state g.S.GroupStorage.is_well g.S.GroupStorage.shows c.args.peer c.args.self.now (record c.args.self.now { feeders = c.read_piece-used.new.feeders }) c.take_frame.new.self refl refl back) c.in-Err-take_frame.ensures.frame)))
 
 pub returns-clause-next : goal.returns-clause-next
 returns-clause-next g c =

@@ -60,6 +60,7 @@ loop-group-preserved g c = (
       subst (λ l. IsOpening g.M.StateMachine.rules kept g.S.GroupStorage.stands (value_of g.M.StateMachine.state g.S.GroupStorage.is_well g.S.GroupStorage.shows c.open_group.new.self) c.args.groups.now rest l) (sym pushed)
       (opens_next g.M.StateMachine.rules kept g.S.GroupStorage.stands (value_of g.M.StateMachine.state g.S.GroupStorage.is_well g.S.GroupStorage.shows c.loop-group.self) (value_of g.M.StateMachine.state g.S.GroupStorage.is_well g.S.GroupStorage.shows c.open_group.new.self) gid c.args.groups.now rest c.loop-group.outcomes.items c.in-Ok.outcome c.open_group.ensures.id c.open_group.ensures.members
       (λ other apart. c.in-Ok.ensures.running other apart) c.open_group.ensures.kept done here),
+  g.met.S.GroupStorage.meets_later _ _ _ _ c.loop-group.invariant.4 c.in-Ok.ensures.met,
 )
 
 pub returns-clause-opened : goal.returns-clause-opened

@@ -1,5 +1,5 @@
 -- The groups so far are opened, and the others are still to come.
-use Rattle.std.proofs.Common.{◌≡◌, ℕ, drop}
+use Rattle.std.proofs.Common.{◌≡◌, ℕ, None, drop}
 use Rattle.raft_group_step.specs.StoredGroup.{StoredGroup}
 use Rattle.raft_applier.specs.Following.{AreOfMachine}
 use Rattle.raft_node.specs.Opening.{AreThere, IsBegun}
@@ -15,3 +15,4 @@ invariant-loop-group g l =
     × ((kept : ℕ → StoredGroup) → AreOfMachine g.M.StateMachine.rules g.S.GroupStorage.stands
     → IsBegun (value_of g.M.StateMachine.state g.S.GroupStorage.is_well g.S.GroupStorage.shows l.initial.self) kept → AreThere kept l.groups
     → IsOpening g.M.StateMachine.rules kept g.S.GroupStorage.stands (value_of g.M.StateMachine.state g.S.GroupStorage.is_well g.S.GroupStorage.shows l.self) l.groups (drop l.group-index l.groups) l.outcomes.items)
+    × g.S.GroupStorage.meets l.initial.self.groups.storage l.self.groups.storage None

@@ -13,8 +13,8 @@ use Rattle.raft_node.specs.Standing.{NodeValue, value_of}
 use Rattle.raft_node.proofs.Events.{Passes, Reaches, asked_reaches, begun_taken, none_said, of_group_now, of_right, of_wrong, reach_elsewhere, runs_by, taken_now, unknown_event, with_own}
 use Rattle.raft_node.proofs.node.Node.take_frame.Goals as goal
 
-pub returns : goal.returns
-returns g c =
+pub returns-clause-frame : goal.returns-clause-frame
+returns-clause-frame g c =
     let old : NodeValue = (value_of g.M.StateMachine.state g.S.GroupStorage.is_well g.S.GroupStorage.shows c.args.self.now) in
     let mid : NodeValue = (value_of g.M.StateMachine.state g.S.GroupStorage.is_well g.S.GroupStorage.shows (record c.args.self.now { groups = c.receive_frame-answered.new.groups })) in
     let new : NodeValue = (value_of g.M.StateMachine.state g.S.GroupStorage.is_well g.S.GroupStorage.shows c.settle.new.self) in

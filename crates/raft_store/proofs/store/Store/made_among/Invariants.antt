@@ -1,6 +1,6 @@
 -- Those so far that the node has, and those of the groups still to come, are those of all.
 use Rattle.std.proofs.Common.{◌≡◌, ◌++◌, length}
-use Rattle.std.specs.Prelude.{filter, is_some}
+use Rattle.std.specs.Prelude.{None, filter, is_some}
 use Rattle.std.specs.Vec.Iter.{into_iter_items, into_iter_len}
 use Rattle.raft_group_storage.specs.Keeping.{KeepsAll}
 use Rattle.raft_store.specs.Batches.{ShowsBy}
@@ -17,5 +17,6 @@ invariant-loop-group g l =
       sound : L.is_sound l.initial.self.log → L.is_sound l.self.log;
       steady : L.is_sound l.self.log → L.is_sound l.initial.self.log × (L.answers l.self.log ≡ L.answers l.initial.self.log);
       kept : KeepsAll (ShowsBy g.M.StateMachine.rules L.is_sound L.answers L.leaves l.initial.self.log l.initial.self.recent) (ShowsBy g.M.StateMachine.rules L.is_sound L.answers L.leaves l.self.log l.self.recent);
+      met : L.meets l.initial.self.log l.self.log None;
       left : into_iter_len l.group-iterator ≡ length (into_iter_items l.group-iterator);
     }

@@ -1,0 +1,139 @@
+//! How much of the log is cleaned.
+
+ghost use Rattle.std.specs.List.Sorted.{IsStrictlySortedBy};
+ghost use Rattle.std.specs.Ordering.{nat_cmp};
+ghost use Rattle.std.specs.Prelude.{◌≡◌, ◌+◌, ◌↔◌, ℕ, true, false, IfOk, IsTrue, OnErr, OnOk, Option};
+ghost use Rattle.raft_log_cleaner.specs.Cleaning.{CanCleanSome, Cleans, IsLeftStanding, KeepsFromBarrier};
+ghost use Rattle.raft_log_cleaner.specs.Pipes.{KeepBoth};
+ghost use Rattle.raft_log_cleaner.specs.Told.{is_among};
+ghost use Rattle.raft_log_cleaning.specs.Extents.{HasOnlyNew, MayClean};
+ghost use Rattle.raft_log_cleaning.specs.declared.cleaning.Extent.TheVariants.{All, Rewrites};
+ghost use Rattle.raft_log_disk.specs.Cause.{RefusesNoMore};
+ghost use Rattle.raft_log_memtables.specs.MemTables.{content_in};
+ghost use Rattle.raft_log_pipe.specs.Pipe.{first_of};
+
+use raft_log_cleaner::{PurgeManager, RewriteStep};
+use raft_log_files::{Error, FileSystem};
+use raft_log_pipes::DualPipes;
+use raft_log_records::FileSeq;
+use raft_log_rewriter::must_rewrite_rewrite_queue;
+use raft_log_traced::TracedTables;
+use std::alloc::Global;
+
+/// How much of the log is cleaned.
+#[derive(Clone, Copy, Debug, PartialEq, Eq)]
+pub enum Extent {
+    /// All that is written to the append queue.
+    All,
+    /// The oldest files of an append queue that is large.
+    Expired,
+    /// The rewrite queue, which is written anew.
+    Rewrites,
+}
+
+/// What a cleaning did.
+#[derive(Drop)]
+pub struct Cleaned {
+    /// So many append files went, where all was to be cleaned.
+    pub went: u64,
+    /// These groups are told to compact.
+    pub told: Vec<u64>,
+}
+
+/// Whether so much of a log may be cleaned, by what an opening found of atomic groups.
+pub fn may_clean(extent: Extent, log: &TracedTables) -> bool
+    ensures { IsTrue result ↔ MayClean extent log.now }
+{
+    match extent {
+        Extent::All | Extent::Expired => !log.has_marked,
+        Extent::Rewrites => !log.has_marked && !log.is_parted,
+    }
+}
+
+/// Writes anew to the rewrite queue what counts in the append files, up to the last one that is
+/// written, and lets those go that are needed no more. Answers how many went.
+fn clean_all<F: FileSystem>(
+    manager: &PurgeManager,
+    files: &mut F,
+    pipes: &mut DualPipes,
+    log: &mut TracedTables,
+    barrier: Option<FileSeq>,
+) -> Result<u64, Error>
+    requires { CanCleanSome (F.disk files.old) pipes.old log.old }
+    ensures cleans { Cleans (F.disk files.old) pipes.old log.old (F.disk files.new) pipes.new log.new result }
+    ensures both { OnOk result (KeepBoth (F.disk files.old) pipes.old (F.disk files.new) pipes.new) }
+    ensures stands { OnErr result (IsLeftStanding (F.disk files.old) pipes.old log.old (F.disk files.new) pipes.new) }
+    ensures barrier { OnOk result (KeepsFromBarrier barrier pipes.old pipes.new) }
+    ensures count { IfOk result (λ n. first_of pipes.old.append + n ≡ first_of pipes.new.append) }
+    ensures later { RefusesNoMore (F.is_bounded files.old) (F.is_bounded files.new) (F.meter files.old) (F.meter files.new) }
+{
+    let step = RewriteStep::Rewrites;
+    if let Err(error) = manager.must_rewrite_append_queue(files, pipes, log, None, step) {
+        return Err(error);
+    }
+    manager.purge_append_files(files, pipes, log, barrier)
+}
+
+/// Writes the rewrite queue anew, and lets its old files go.
+fn write_anew<F: FileSystem>(
+    alloc: Global,
+    files: &mut F,
+    pipes: &mut DualPipes,
+    log: &mut TracedTables,
+) -> Result<(), Error>
+    requires can { CanCleanSome (F.disk files.old) pipes.old log.old }
+    requires together { log.old.is_parted ≡ false }
+    ensures cleans { Cleans (F.disk files.old) pipes.old log.old (F.disk files.new) pipes.new log.new result }
+    ensures both { OnOk result (KeepBoth (F.disk files.old) pipes.old (F.disk files.new) pipes.new) }
+    ensures stands { OnErr result (IsLeftStanding (F.disk files.old) pipes.old log.old (F.disk files.new) pipes.new) }
+    ensures anew { OnOk result (HasOnlyNew pipes.old pipes.new) }
+    ensures barrier { (barrier : Option ℕ) → OnOk result (KeepsFromBarrier barrier pipes.old pipes.new) }
+    ensures later { RefusesNoMore (F.is_bounded files.old) (F.is_bounded files.new) (F.meter files.old) (F.meter files.new) }
+{
+    must_rewrite_rewrite_queue(alloc, files, pipes, log)
+}
+
+/// Cleans as much of the log as is asked for, and no append file goes from the barrier on. After an
+/// `Err` the log is to be opened again.
+pub fn clean<F: FileSystem>(
+    alloc: Global,
+    manager: &mut PurgeManager,
+    files: &mut F,
+    pipes: &mut DualPipes,
+    log: &mut TracedTables,
+    extent: Extent,
+    barrier: Option<FileSeq>,
+) -> Result<Cleaned, Error>
+    requires can { CanCleanSome (F.disk files.old) pipes.old log.old }
+    requires may { MayClean extent log.old }
+    ensures cleans { Cleans (F.disk files.old) pipes.old log.old (F.disk files.new) pipes.new log.new result }
+    ensures both { OnOk result (KeepBoth (F.disk files.old) pipes.old (F.disk files.new) pipes.new) }
+    ensures stands { OnErr result (IsLeftStanding (F.disk files.old) pipes.old log.old (F.disk files.new) pipes.new) }
+    ensures barrier { OnOk result (KeepsFromBarrier barrier pipes.old pipes.new) }
+    ensures count { extent ≡ All → IfOk result (λ done. first_of pipes.old.append + done.went ≡ first_of pipes.new.append) }
+    ensures anew { extent ≡ Rewrites → OnOk result (HasOnlyNew pipes.old pipes.new) }
+    ensures rising { IfOk result (λ done. IsStrictlySortedBy nat_cmp done.told.items) }
+    ensures there { IfOk result (λ done. (group : ℕ) → is_among done.told.items group ≡ true → (content_in log.old.tables group).there ≡ true) }
+    ensures later { RefusesNoMore (F.is_bounded files.old) (F.is_bounded files.new) (F.meter files.old) (F.meter files.new) }
+{
+    match extent {
+        Extent::All => match clean_all(manager, files, pipes, log, barrier) {
+            Ok(went) => Ok(Cleaned {
+                went,
+                told: Vec::new(alloc),
+            }),
+            Err(error) => Err(error),
+        },
+        Extent::Expired => match manager.purge_expired_files(files, pipes, log, barrier) {
+            Ok(told) => Ok(Cleaned { went: 0, told }),
+            Err(error) => Err(error),
+        },
+        Extent::Rewrites => match write_anew(alloc, files, pipes, log) {
+            Ok(()) => Ok(Cleaned {
+                went: 0,
+                told: Vec::new(alloc),
+            }),
+            Err(error) => Err(error),
+        },
+    }
+}

@@ -1,0 +1,12 @@
+pub mod Items
+pub mod Marked
+pub mod Stages
+pub mod Numbers
+pub mod Recording
+pub mod Steps
+pub mod Beginning
+pub mod Letting
+pub mod Whole
+pub mod Adding
+pub mod Calls
+pub mod Ranges

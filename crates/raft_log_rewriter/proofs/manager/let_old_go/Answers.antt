@@ -1,0 +1,45 @@
+-- Old files that go.
+use Rattle.std.proofs.Common.{◌++◌, refl, [], ap}
+use Rattle.raft_log_pipe.specs.Pipe.{first_of}
+use Rattle.raft_log_cleaner.proofs.Going.{none_ok, when_err}
+use Rattle.raft_log_cleaner.proofs.Keeping.{pipe_as_before}
+use Rattle.raft_log_rewriter.proofs.Letting.{files_gone, go_refused, holds_all, rest_leaves}
+use Rattle.raft_log_rewriter.proofs.manager.let_old_go.Goals as goal
+
+pub purge_to-requires-clause-pipe : goal.purge_to-requires-clause-pipe
+purge_to-requires-clause-pipe g c κs within = c.requires.1.stands.pipes.rewrite
+
+pub returns-in_err-purge_to-clause-lets_go : goal.returns-in_err-purge_to-clause-lets_go
+returns-in_err-purge_to-clause-lets_go g c =
+    let d = g.F.FileSystem.disk c.args.files.now in
+    let e = g.F.FileSystem.disk c.purge_to.new.files in
+    let p = c.args.pipes.now in
+    let q = c.purge_to.new.self in
+    let met = g.met.F.FileSystem g.world.𝓛 g.world.𝓜 g.world.𝓡 ((λ s x. x), (λ x. x), (λ x. x), λ x. x) in
+    let other = c.in_err-purge_to.ensures.other in
+    let call = c.in_err-purge_to.ensures.call in
+    record {
+      ok = λ content h. none_ok _ _ c.from_residual.result c.from_residual.ensures.1;
+      err = λ content h. when_err c.from_residual.result (rest_leaves d e p q c.args.log.now c.args.next content h other q refl (call.bound.1 h.stands.span.0) (call.holds (h.stands.old ++ h.stands.new) [] (holds_all d e p q c.args.log.now c.args.next content h other)));
+      kept = none_ok _ _ c.from_residual.result c.from_residual.ensures.1;
+      left = λ content h. when_err c.from_residual.result (go_refused d e p q c.args.log.now c.args.next content h other (met.is_named c.args.files.now) (met.is_named c.purge_to.new.files) call.pipe call.same call.rest call.keeps c.in_err-purge_to.ensures.set.1 call.paths (call.bound.1 h.stands.span.0) call.stands);
+    }
+
+pub returns-clause-lets_go : goal.returns-clause-lets_go
+returns-clause-lets_go g c =
+    let d = g.F.FileSystem.disk c.args.files.now in
+    let e = g.F.FileSystem.disk c.purge_to.new.files in
+    let p = c.args.pipes.now in
+    let q = c.purge_to.new.self in
+    let other = c.in_ok-purge_to.ensures.other in
+    let call = c.in_ok-purge_to.ensures.call in
+    record {
+      ok = λ content h. files_gone d e p q c.args.log.now c.args.next content h other call.pipe call.same call.rest call.ok.0 call.holds;
+      err = λ content h. tt;
+      kept = record {
+        append = pipe_as_before p.append q.append d e other;
+        rewrite = record { set = c.in_ok-purge_to.ensures.set.1; paths = call.paths; alone = call.alone };
+        first = ap first_of other.same;
+      };
+      left = λ content h. tt;
+    }

@@ -1,0 +1,4 @@
+pub mod Due
+pub mod Standing
+pub mod Parts
+pub mod Rewriting
