@@ -87,8 +87,9 @@ class Ran:
         return found and (found[1] or found[2])
 
 
-def check(crate, texts, only):
-    """Checks these functions of a copy of the crate that has these texts in place of its own."""
+def check(crate, texts, only, as_source=False):
+    """Checks these functions of a copy of the crate that has these texts in place of its own. As
+    source the libraries below needn't be built."""
     with tempfile.TemporaryDirectory(prefix="try-edits-") as room:
         for part in rtlib.PARTS:
             if os.path.isdir(f"{crate.folder}/{part}"):
@@ -96,7 +97,8 @@ def check(crate, texts, only):
         for path, text in texts.items():
             with open(f"{room}/{path}", "w", encoding="utf-8") as it:
                 it.write(text)
-        words = [rtlib.RATTLE, "check", *crate.words(["--jobs", "1"], keeps=False)]
+        over = {"as_source": True} if as_source else {"keeps": False}
+        words = [rtlib.RATTLE, "check", *crate.words(["--jobs", "1"], **over)]
         words += [it for name in only for it in ("--only", name)]
         with tempfile.TemporaryFile("w+", errors="replace") as said:
             how = {"stdin": subprocess.DEVNULL, "stdout": said, "stderr": subprocess.STDOUT}
