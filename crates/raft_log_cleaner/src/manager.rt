@@ -255,21 +255,34 @@ pub struct PurgeManager {
     alloc: Global,
     /// The append queue is cleaned once its files may hold more bytes.
     purge_threshold: u64,
+    /// The rewrite queue isn't written anew unless its files may hold more bytes.
+    rewrite_threshold: u64,
+    /// Nor unless more per cent than these of what was written to it count no more.
+    garbage_percent: u64,
     /// How many times in a row groups were told to compact and left alone.
     reports: Reports,
 }
 
 impl PurgeManager {
-    /// A manager that has cleaned nothing yet. The threshold is in bytes (raft-engine's
-    /// `purge-threshold`).
-    pub fn new(alloc: Global, purge_threshold: u64) -> PurgeManager
+    /// A manager that has cleaned nothing yet. The thresholds are in bytes (raft-engine's
+    /// `purge-threshold`, and its `purge-rewrite-threshold` with `purge-rewrite-garbage-ratio`, which is
+    /// in per cent here).
+    pub fn new(
+        alloc: Global,
+        purge_threshold: u64,
+        rewrite_threshold: u64,
+        garbage_percent: u64,
+    ) -> PurgeManager
         ensures alloc { result.alloc ≡ alloc }
         ensures threshold { result.purge_threshold ≡ purge_threshold }
+        ensures rewrites { (result.rewrite_threshold ≡ rewrite_threshold) × (result.garbage_percent ≡ garbage_percent) }
         ensures reports { (group : ℕ) → count_in result.reports group ≡ 0 }
     {
         PurgeManager {
             alloc,
             purge_threshold,
+            rewrite_threshold,
+            garbage_percent,
             reports: Reports::new(alloc),
         }
     }
@@ -330,6 +343,20 @@ impl PurgeManager {
         is_large(files_of(pipes, LogQueue::Append), self.purge_threshold)
     }
 
+    /// How many bytes the files of the rewrite queue may hold before it is judged by its garbage.
+    pub fn rewrite_threshold(&self) -> u64
+        ensures { result ≡ self.now.rewrite_threshold }
+    {
+        self.rewrite_threshold
+    }
+
+    /// How many per cent of what was written to the rewrite queue may be garbage.
+    pub fn garbage_percent(&self) -> u64
+        ensures { result ≡ self.now.garbage_percent }
+    {
+        self.garbage_percent
+    }
+
     /// Marks and rewrites groups as is planned, before a file of the append queue, and lets the files
     /// go that no group needs then.
     fn clean_planned<F: FileSystem>(
@@ -387,6 +414,7 @@ impl PurgeManager {
         ensures due { (IsLarge (queue_of pipes.old.append) self.old.purge_threshold → ⊥)
             → IsOkAnd result (λ told. told.items ≡ []) × (files.new ≡ files.old) × (pipes.new ≡ pipes.old) × (log.new ≡ log.old) × (self.new ≡ self.old) }
         ensures set { (self.new.alloc ≡ self.old.alloc) × (self.new.purge_threshold ≡ self.old.purge_threshold) }
+        ensures set_rewrites { (self.new.rewrite_threshold ≡ self.old.rewrite_threshold) × (self.new.garbage_percent ≡ self.old.garbage_percent) }
     {
         let Some(marks) = due_marks(pipes, self.purge_threshold) else {
             return Ok(Vec::new(self.alloc));

@@ -18,6 +18,7 @@ use Rattle.raft_log_pipe.specs.declared.pipe.SinglePipe.{SinglePipe}
 use Rattle.raft_log_pipe.specs.Pipe.{Holds, Numbered, first_of}
 use Rattle.raft_log_pipes.specs.declared.pipes.DualPipes.{DualPipes}
 use Rattle.raft_log_memtables.specs.Content.{Content}
+use Rattle.raft_log_memtables.specs.MemTables.{content_in}
 use Rattle.raft_log_memtables.specs.Replay.{content_of}
 use Rattle.raft_log_covers.specs.Queues.{batches_of}
 use Rattle.raft_log_traces.specs.GroupTraces.{traces_in}
@@ -32,7 +33,9 @@ use Rattle.raft_log_pipe.specs.Kept.{KeepsSettings}
 use Rattle.raft_log_pipes.specs.Kept.{KeepSettings}
 use Rattle.raft_log_pipes.specs.Pipes.{pipe_of}
 use Rattle.raft_log_cleaner.specs.Cleaning.{CanClean, LeavesContent, LeavesStanding}
+use Rattle.raft_log_cleaner.specs.Facts.{TellEntries}
 use Rattle.raft_log_cleaner.specs.Pipes.{HasHoleBefore, KeepBoth}
+use Rattle.raft_log_cleaner.proofs.Telling.{tells_so}
 use Rattle.raft_log_cleaning.specs.Extents.{HasOnlyNew}
 use Rattle.raft_content_log.specs.Leaving.{LeavesNoMore}
 use Rattle.raft_log_engine.specs.declared.block_cache.BlockCache.{BlockCache}
@@ -111,6 +114,12 @@ module _ (d e : Disk) (p q : DualPipes) (traced : TracedTables) (wrote_unsynced 
         together = may.together;
         cleanable = subst (λ (c : Seen). CanBeCleaned (first_of q.append) (traces_in traced.traces) (unnumbered r) c (filed all)) (sym (held_answered d p traced.tables r s u held.batches.held)) may.cleanable;
       }
+
+  -- what its traces tell of entries
+  pub told_places : traced.has_marked ≡ false → TellEntries (traces_in traced.traces) (content_in traced.tables)
+  told_places none =
+      let may : MayBeCleaned p traced r (s ++ u) = held.traces none in
+      tells_so p traced r (s ++ u) (content_of_batches (r ++ (s ++ u))) held.batches.held.tabled may.cleanable may.placed
 
 -- ---- after it
 

@@ -11,7 +11,11 @@ use Rattle.raft_log_rewriter.specs.Standing.{CanRewrite}
 use Rattle.raft_log_rewriter.specs.Standing as rewriter
 use Rattle.raft_log_cleaning.specs.Extents.{HasOnlyNew}
 use Rattle.raft_log_pipe.specs.Pipe.{first_of}
-use Rattle.raft_log_cleaning.proofs.cleaning.write_anew.Goals as goal
+use Rattle.raft_log_cleaner.proofs.Calls.{cleans_refused, cleans_stopped}
+use Rattle.raft_log_cleaner.proofs.Going.{when_err}
+use Rattle.raft_log_cleaner.proofs.Telling.{tells}
+use Rattle.raft_log_cleaning.proofs.Behind.{unchanged_stands, written_set}
+use Rattle.raft_log_cleaning.proofs.expired.write_anew.Goals as goal
 
 can_rewrite : (d : Disk) (p : DualPipes) (log : TracedTables) (content : Content (List ℕ)) → log.is_parted ≡ false → CanClean d p log content → CanRewrite d p log content
 can_rewrite d p log content is can = record { can = can; together = can.together is }
@@ -37,28 +41,18 @@ stand_so : {X E : Type 0} (result : Result X E) (d e : Disk) (p q : DualPipes) (
 stand_so (Ok x) d e p q log is none = tt
 stand_so (Err x) d e p q log is left = λ content can. left content (can_rewrite d p log content is can)
 
+pub live_of-requires : goal.live_of-requires
+live_of-requires g c = tells (g.F.FileSystem.disk c.args.files.now) c.args.pipes.now c.args.log.now c.requires.can.0 c.requires.can.1
+
 pub must_rewrite_rewrite_queue-requires-after_bounds : goal.must_rewrite_rewrite_queue-requires-after_bounds
 must_rewrite_rewrite_queue-requires-after_bounds g c κs within =
     (c.requires.can.0, can_rewrite (g.F.FileSystem.disk c.args.files.now) c.args.pipes.now c.args.log.now c.requires.can.0 c.requires.together c.requires.can.1)
 
+pub returns-in_err-live-clause-cleans : goal.returns-in_err-live-clause-cleans
+returns-in_err-live-clause-cleans g c = cleans_stopped _ (g.F.FileSystem.disk c.args.files.now) c.args.pipes.now c.args.log.now c.from_residual.result c.from_residual.ensures.1
+
+pub returns-in_err-live-clause-stands : goal.returns-in_err-live-clause-stands
+returns-in_err-live-clause-stands g c = when_err c.from_residual.result (unchanged_stands (g.F.FileSystem.disk c.args.files.now) c.args.pipes.now c.args.log.now)
+
 pub returns : goal.returns
-returns g c =
-    let d = g.F.FileSystem.disk c.args.files.now in
-    let e = g.F.FileSystem.disk c.must_rewrite_rewrite_queue.new.files in
-    let p = c.args.pipes.now in
-    let q = c.must_rewrite_rewrite_queue.new.pipes in
-    let log = c.args.log.now in
-    let result = c.must_rewrite_rewrite_queue.result in
-    let done = c.must_rewrite_rewrite_queue.ensures in
-    let can = λ (content : Content (List ℕ)). λ (was : CanClean d p log content). can_rewrite d p log content c.requires.together was in
-    record {
-      cleans = record {
-        ok = λ content was. still_cleaned result e q c.must_rewrite_rewrite_queue.new.log content (done.rewrites.ok content (can content was));
-        err = λ content was. done.rewrites.err content (can content was);
-      };
-      both = keeps_both result d e p q done.kept;
-      stands = stand_so result d e p q log c.requires.together done.left;
-      anew = only_new result d e p q done.kept done.gone;
-      barrier = λ barrier. from_any result d e p q barrier done.kept;
-      later = done.later;
-    }
+returns g c = ?
