@@ -23,6 +23,25 @@ use raft_log_rewriter::must_rewrite_rewrite_queue;
 use raft_log_traced::TracedTables;
 use std::alloc::Global;
 
+/// Writes the rewrite queue anew, and lets its old files go.
+fn write_queue<F: FileSystem>(
+    alloc: Global,
+    files: &mut F,
+    pipes: &mut DualPipes,
+    log: &mut TracedTables,
+) -> Result<(), Error>
+    requires can { CanCleanSome (F.disk files.old) pipes.old log.old }
+    requires together { log.old.is_parted ≡ false }
+    ensures cleans { Cleans (F.disk files.old) pipes.old log.old (F.disk files.new) pipes.new log.new result }
+    ensures both { OnOk result (KeepBoth (F.disk files.old) pipes.old (F.disk files.new) pipes.new) }
+    ensures stands { OnErr result (IsLeftStanding (F.disk files.old) pipes.old log.old (F.disk files.new) pipes.new) }
+    ensures anew { OnOk result (HasOnlyNew pipes.old pipes.new) }
+    ensures barrier { (barrier : Option ℕ) → OnOk result (KeepsFromBarrier barrier pipes.old pipes.new) }
+    ensures later { RefusesNoMore (F.is_bounded files.old) (F.is_bounded files.new) (F.meter files.old) (F.meter files.new) }
+{
+    must_rewrite_rewrite_queue(alloc, files, pipes, log)
+}
+
 /// Writes the rewrite queue anew, and lets its old files go. Its counters begin again: as much was
 /// written then as counted of it.
 pub(crate) fn write_anew<F: FileSystem>(
@@ -42,7 +61,7 @@ pub(crate) fn write_anew<F: FileSystem>(
     ensures later { RefusesNoMore (F.is_bounded files.old) (F.is_bounded files.new) (F.meter files.old) (F.meter files.new) }
 {
     let live = live_of(log)?;
-    must_rewrite_rewrite_queue(alloc, files, pipes, log)?;
+    write_queue(alloc, files, pipes, log)?;
     log.written = live;
     Ok(())
 }

@@ -1,7 +1,8 @@
 -- No group is told where all is cleaned, or the rewrite queue is written anew, and no append file goes then.
-use Rattle.std.proofs.Common.{subst, sym}
+use Rattle.std.proofs.Common.{◌≡◌, Bool, true, false, ap, subst, sym, ◌∙◌}
 use Rattle.std.specs.List.Sorted.{IsStrictlySortedBy}
 use Rattle.std.specs.Ordering.{nat_cmp}
+use Rattle.raft_log_cleaning.specs.Extents.{writes_anew}
 use Rattle.raft_log_cleaning.proofs.cleaning.clean.Goals as goal
 
 pub returns-in-Ok-clause-rising : goal.returns-in-Ok-clause-rising

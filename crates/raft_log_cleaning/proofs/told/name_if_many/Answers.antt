@@ -10,7 +10,7 @@ pub returns-then-not-has_many_rewritten-clause-own : goal.returns-then-not-has_m
 returns-then-not-has_many_rewritten-clause-own c = λ fresh. record {
   count = c.rewritten_of-rewritten.result;
   are = c.rewritten_of-rewritten.ensures;
-  many = (λ told. absurd (false≢true (sym fresh ∙ told)), λ large. ?);
+  many = (λ told. absurd (false≢true (sym fresh ∙ told)), λ large. absurd (false≢true (sym c.if-not-has_many_rewritten.true ∙ c.has_many_rewritten.ensures.1 large)));
 }
 
 pub returns-clause-others : goal.returns-clause-others
@@ -20,5 +20,5 @@ pub returns-clause-own : goal.returns-clause-own
 returns-clause-own c = λ fresh. record {
   count = c.rewritten_of-rewritten.result;
   are = c.rewritten_of-rewritten.ensures;
-  many = (λ told. ?, λ large. c.in_ok-name.ensures c.args.group ∙ ap (λ (b : Bool). if b then true else is_named c.args.named.now c.args.group) (same_number c.args.group));
+  many = (λ told. c.has_many_rewritten.ensures.0 c.if-not-has_many_rewritten.false, λ large. c.in_ok-name.ensures c.args.group ∙ ap (λ (b : Bool). if b then true else is_named c.args.named.now c.args.group) (same_number c.args.group));
 }
