@@ -1,4 +1,4 @@
-use Rattle.std.proofs.Common.{List, [], ◌∷◌, ◌++◌, ◌||◌, refl, sym, ap, subst, ◌∙◌}
+use Rattle.std.proofs.Common.{List, [], ◌∷◌, ◌+◌, ◌++◌, ◌||◌, refl, sym, ap, subst, ◌∙◌}
 use Rattle.raft_log_memtables.proofs.Cells.{on_ok}
 use Rattle.raft_log_covers.specs.Kept.{Traces, new_trace, traces_after}
 use Rattle.raft_log_records.specs.declared.item.LogItem.{LogItem}
@@ -12,6 +12,7 @@ use Rattle.raft_log_traces.specs.GroupTraces.{traces_in}
 use Rattle.raft_log_traced.specs.declared.traced.TracedReplay.{TracedReplay}
 use Rattle.raft_log_purge.specs.Together.{Tells}
 use Rattle.raft_log_traced.specs.Traced.{rewrites_in, traces_over}
+use Rattle.raft_log_traced.specs.Written.{counted, written_in}
 use Rattle.raft_log_traced.proofs.MarkedLemmas.{append_noted, rewrite_noted}
 use Rattle.raft_log_traced.proofs.PartedLemmas.{append_told, rewrite_told}
 use Rattle.raft_log_traced.proofs.TraceLemmas.{appended, rewritten}
@@ -46,6 +47,7 @@ returns-clause-replayed c = on_ok c.replay.result c.replay.ensures.replayed
                 (subst (λ (m : TracedReplay). Tells m.together (rewrites_in placed ++ p.items ∷ [])) (sym w.self-is)
                 (subst (λ (l : List LogItem). Tells w.add.new.self (rewrites_in placed ++ items_of l ∷ [])) w.deref-in-Rewrite.ensures.value (w.add.ensures (rewrites_in placed) has.together)));
             written = rewrite_counted placed p c.args.self.now.written c.match-handle.self.written w.in-Rewrite.is has.written
-                (ap (λ (m : TracedReplay). m.written) w.self-is ∙ ?);
+                (ap (λ (m : TracedReplay). m.written) w.self-is ∙ w.with_written-self.ensures
+                ∙ ap (λ (l : List LogItem). counted (c.args.self.now.written + written_in (items_of l))) w.deref-in-Rewrite-2.ensures.value);
           }
     ])
