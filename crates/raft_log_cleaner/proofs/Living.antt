@@ -21,7 +21,7 @@ stored_there t pairs more pair count stored all tells is before =
     let last = one_if (is_some (t.key_file pair.0)) (sym tells ∙ is) in
     ap (λ (n : ℕ). n + 1) before ∙ ap (λ (n : ℕ). count_stored t pairs + n) (sym last) ∙ sym (stored_more t pairs pair) ∙ ap (count_stored t) (sym all)
   where
-    one_if : (b : Bool) → (not b) ≡ true → (if b then 0 else 1) ≡ 1
+    one_if : (b : Bool) → (not b) ≡ true → ◌≡◌ {A = ℕ} (if b then 0 else 1) 1
     one_if true h = absurd cc
     one_if false h = refl
 
@@ -33,7 +33,7 @@ not_stored_there t pairs more pair count stored all tells is before =
     let same : count_stored t pairs ≡ count_stored t pairs + 0 = omega arith in
     before ∙ same ∙ ap (λ (n : ℕ). count_stored t pairs + n) (sym last) ∙ sym (stored_more t pairs pair) ∙ ap (count_stored t) (sym all)
   where
-    none_if : (b : Bool) → (not b) ≡ false → (if b then 0 else 1) ≡ 0
+    none_if : (b : Bool) → (not b) ≡ false → ◌≡◌ {A = ℕ} (if b then 0 else 1) 0
     none_if true h = refl
     none_if false h = absurd cc
 
