@@ -16,6 +16,8 @@ use Rattle.raft_log_purge.specs.Steps.{HasSteps}
 use Rattle.raft_log_purge.proofs.StepLemmas.{has_steps_added}
 use Rattle.raft_log_traced.specs.declared.traced.TracedTables.{TracedTables}
 use Rattle.raft_log_cleaner.specs.Cleaning.{GoesOn, IsCleaning}
+use Rattle.raft_log_cleaner.specs.Freed.{StayFrom}
+use Rattle.raft_log_cleaner.proofs.Freeing.{has_stay, ok_stay, stay_same, stay_then}
 use Rattle.raft_log_marks.specs.Opened.{TellPlaces}
 use Rattle.raft_log_traced.specs.Traced.{lies_in}
 use Rattle.raft_log_cleaner.proofs.Standing.{still_leaves}
@@ -27,12 +29,13 @@ pub record HasGone (d : Disk) (p : DualPipes) (log : TracedTables) (items : Batc
   pub on : (content : Content (List ℕ)) → IsCleaning d p log items content → IsCleaning e q new more content
   pub append : IsAsBefore p.append d q.append e
   pub kept : KeepsPipes d p e q
+  pub stays : (content : Content (List ℕ)) → IsCleaning d p log items content → StayFrom (traces_in log.traces) (traces_in new.traces)
 
 pub still_as_before : (p : SinglePipe) (d : Disk) → IsAsBefore p d p d
 still_as_before p d = record { same = refl; usable = λ pipe. pipe; holds = λ s u holds. holds; alone = λ alone. alone }
 
 pub not_yet : (d : Disk) (p : DualPipes) (log : TracedTables) (items : Batch) → HasGone d p log items d p log items
-not_yet d p log items = record { on = λ content s. s; append = still_as_before p.append d; kept = same_pipes d p }
+not_yet d p log items = record { on = λ content s. s; append = still_as_before p.append d; kept = same_pipes d p; stays = λ content s. stay_same (traces_in log.traces) (traces_in log.traces) refl }
 
 abbrev pub done : {X E : Type 0} → X → Result X E
 done x = Ok x
@@ -67,6 +70,7 @@ stopped d p log new items more x = record {
   append = still_as_before p.append d;
   kept = tt;
   left = λ content s. still_left d d p p log items content s (same_pipes d p);
+  stays = λ content s. tt;
 }
 
 pub stopped_by : {X E : Type 0} (Q : E → Type 0) (d : Disk) (p : DualPipes) (log new : TracedTables) (items more : Batch) (result : Result X E) → IsErrAnd result Q → GoesOn d p log items d p new more result
@@ -76,6 +80,7 @@ stopped_by Q d p log new items more result is = record {
   append = still_as_before p.append d;
   kept = none_ok _ _ result is;
   left = λ content s. when_err result (still_left d d p p log items content s (same_pipes d p));
+  stays = λ content s. none_ok _ _ result is;
 }
 
 -- a step that only adds to the batch
@@ -101,6 +106,7 @@ added d p log new items more x same parted steps = record {
   append = still_as_before p.append d;
   kept = same_pipes d p;
   left = λ content s. tt;
+  stays = λ content s. has_stay content (traces_in log.traces) (traces_in new.traces) items more (steps content s);
 }
 
 module _ {d e f : Disk} {p q r : DualPipes} {log mid new : TracedTables} {items some more : Batch} where
@@ -112,6 +118,7 @@ module _ {d e f : Disk} {p q r : DualPipes} {log mid new : TracedTables} {items 
     append = then_as_before p.append q.append r.append d e f gone.append step.append;
     kept = ok_then result d e f p q r gone.kept step.kept;
     left = λ content s. err_then result d e f p q r gone.kept (step.left content (gone.on content s));
+    stays = λ content s. ok_stay result (traces_in log.traces) (traces_in mid.traces) (traces_in new.traces) (gone.stays content s) (step.stays content (gone.on content s));
   }
 
   -- a step more
@@ -120,6 +127,7 @@ module _ {d e f : Disk} {p q r : DualPipes} {log mid new : TracedTables} {items 
     on = λ content s. step.ok content (gone.on content s);
     append = then_as_before p.append q.append r.append d e f gone.append step.append;
     kept = pipes_then d e f p q r gone.kept step.kept;
+    stays = λ content s. stay_then (traces_in log.traces) (traces_in mid.traces) (traces_in new.traces) (gone.stays content s) (step.stays content (gone.on content s));
   }
 
   -- it is refused there
@@ -130,8 +138,9 @@ module _ {d e f : Disk} {p q r : DualPipes} {log mid new : TracedTables} {items 
     append = then_as_before p.append q.append r.append d e f gone.append step.append;
     kept = none_ok _ _ result is;
     left = λ content s. when_err result (pipes_then_left d e f p q r gone.kept (step.left content (gone.on content s)));
+    stays = λ content s. none_ok _ _ result is;
   }
 
 -- it has come to its end
 pub gone_done : {X E : Type 0} {d e : Disk} {p q : DualPipes} {log mid : TracedTables} {items some : Batch} (x : X) → HasGone d p log items e q mid some → GoesOn d p log items e q mid some (done {X = X} {E = E} x)
-gone_done x gone = record { ok = gone.on; err = λ content s. tt; append = gone.append; kept = gone.kept; left = λ content s. tt }
+gone_done x gone = record { ok = gone.on; err = λ content s. tt; append = gone.append; kept = gone.kept; left = λ content s. tt; stays = gone.stays }

@@ -2,6 +2,7 @@ pub mod Written
 pub mod Moved
 pub mod Standing
 pub mod Keeping
+pub mod Freeing
 pub mod Going
 pub mod Ends
 pub mod Chunks

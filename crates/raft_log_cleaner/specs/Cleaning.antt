@@ -17,6 +17,7 @@ use Rattle.raft_log_blocks.specs.Held.{IsTabled, content_of_batches}
 use Rattle.raft_log_traced.specs.declared.traced.TracedTables.{TracedTables}
 use Rattle.raft_log_marks.specs.Opened.{TellPlaces}
 use Rattle.raft_log_traced.specs.Traced.{lies_in}
+use Rattle.raft_log_cleaner.specs.Freed.{StayFrom}
 use Rattle.raft_log_cleaner.specs.Pipes.{KeepsPipes, LeavesPipes, StandsFor}
 
 -- the batches of a queue, as the laws of two queues have them: with their files, and without
@@ -64,13 +65,14 @@ abbrev pub IsCleaningSome : Disk → DualPipes → TracedTables → Batch → Ty
 IsCleaningSome d p log items = (content : Content (List ℕ)) × IsCleaning d p log items content
 
 -- A step of a cleaning: after Ok the cleaning goes on, of the same content. After Err whatever a crash leaves reads as it. The append
--- queue stays as it is, and both pipes are kept beside their batches
+-- queue stays as it is, and both pipes are kept beside their batches. No entry is told to stand in an earlier file than before
 pub record GoesOn {X E : Type 0} (d : Disk) (p : DualPipes) (log : TracedTables) (items : Batch) (e : Disk) (q : DualPipes) (new : TracedTables) (more : Batch) (result : Result X E) : Type 0 where
   pub ok : (content : Content (List ℕ)) → IsCleaning d p log items content → OnOk result (IsCleaning e q new more content)
   pub err : (content : Content (List ℕ)) → IsCleaning d p log items content → OnErr result (LeavesContent e q content)
   pub append : IsAsBefore p.append d q.append e
   pub kept : OnOk result (KeepsPipes d p e q)
   pub left : (content : Content (List ℕ)) → IsCleaning d p log items content → OnErr result (LeavesPipes d p e q)
+  pub stays : (content : Content (List ℕ)) → IsCleaning d p log items content → OnOk result (StayFrom (traces_in log.traces) (traces_in new.traces))
 
 -- it goes on, and nothing of the rewrite queue waits for a sync
 abbrev pub IsSynced : Disk → DualPipes → TracedTables → Batch → Content (List ℕ) → Type 0
@@ -125,3 +127,4 @@ pub record Finishes {X E : Type 0} (d : Disk) (p : DualPipes) (log : TracedTable
   pub append : IsAsBefore p.append d q.append e
   pub kept : OnOk result (KeepsPipes d p e q)
   pub left : (content : Content (List ℕ)) → IsCleaning d p log items content → OnErr result (LeavesPipes d p e q)
+  pub stays : (content : Content (List ℕ)) → IsCleaning d p log items content → OnOk result (StayFrom (traces_in log.traces) (traces_in new.traces))

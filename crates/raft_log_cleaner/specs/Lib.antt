@@ -1,5 +1,6 @@
 pub mod Fault
 pub mod Pipes
+pub mod Freed
 pub mod Cleaning
 pub mod Copies
 pub mod Facts

@@ -1,10 +1,11 @@
 //! Entries and keys of a group that stand in append files, written to the rewrite queue.
 
-ghost use Rattle.std.specs.Prelude.{◌≡◌, ◌-◌, ◌^◌, ◌<◌, ◌≤◌, ◌⊎◌, ℕ, map, Contains, None, true, false, IfOk, IfSome, IsSome, IsTrue};
+ghost use Rattle.std.specs.Prelude.{◌≡◌, ◌-◌, ◌^◌, ◌<◌, ◌≤◌, ◌⊎◌, ℕ, map, Contains, None, true, false, IfNone, IfOk, IfSome, IsSome, IsTrue, OnOk};
 ghost use Rattle.raft_log_blocks.specs.Blocks.{HasBlock};
 ghost use Rattle.raft_log_blocks.specs.Placed.{bytes_on};
 ghost use Rattle.raft_log_cleaner.specs.Cleaning.{GoesOn, IsCleaningSome};
 ghost use Rattle.raft_log_cleaner.specs.Copies.{AreCopies};
+ghost use Rattle.raft_log_cleaner.specs.Freed.{EntriesFrom, HasBehind};
 ghost use Rattle.raft_log_disk.specs.Cause.{RefusesNoMore};
 ghost use Rattle.raft_log_memtables.specs.MemTables.{content_in};
 ghost use Rattle.raft_log_pipes.specs.Pipes.{ArePipes};
@@ -105,6 +106,8 @@ fn next_entries(traces: &GroupTraces, group: u64, before: FileSeq) -> Option<(u6
     ensures some { IfSome result (λ e. e.0 < e.1) }
     ensures below { IfSome result (λ e. (i : ℕ) → i < e.0 → (traces_in traces.now group).entry_file i ≡ None) }
     ensures above { IfSome result (λ e. (i : ℕ) → e.0 ≤ i → i < (traces_in traces.now group).next → IsSome ((traces_in traces.now group).entry_file i)) }
+    ensures behind { IfSome result (λ e. HasBehind before e.1 (traces_in traces.now group)) }
+    ensures none { IfNone result (EntriesFrom before (traces_in traces.now group)) }
 {
     let trace = traces.get(group)?;
     let (_, stop) = trace.entries_before(before)?;
@@ -134,6 +137,7 @@ fn rewrite_chunk<F: FileSystem>(
     requires below { (i : ℕ) → i < range.0 → (traces_in log.old.traces group).entry_file i ≡ None }
     requires above { (i : ℕ) → range.0 ≤ i → i < (traces_in log.old.traces group).next → IsSome ((traces_in log.old.traces group).entry_file i) }
     ensures goes_on { GoesOn (F.disk files.now) pipes.now log.old writer.old.batch.items (F.disk files.now) pipes.now log.new writer.new.batch.items result }
+    ensures gone { OnOk result ((i : ℕ) → i ≤ range.0 → (traces_in log.new.traces group).entry_file i ≡ None) }
 {
     if !is_marked(log, group) {
         return Err(Error::EntryNotFound);
@@ -163,11 +167,9 @@ fn rewrite_all_entries<F: FileSystem>(
 ) -> Result<(), Error>
     requires { IsCleaningSome (F.disk files.old) pipes.old log.old writer.old.batch.items }
     ensures goes_on { GoesOn (F.disk files.old) pipes.old log.old writer.old.batch.items (F.disk files.new) pipes.new log.new writer.new.batch.items result }
+    ensures freed { OnOk result (EntriesFrom before (traces_in log.new.traces group)) }
     ensures later { RefusesNoMore (F.is_bounded files.old) (F.is_bounded files.new) (F.meter files.old) (F.meter files.new) }
 {
-    if !is_marked(log, group) {
-        return Ok(());
-    }
     let Some((begin, end)) = next_entries(&log.traces, group, before) else {
         return Ok(());
     };
@@ -299,6 +301,7 @@ pub(crate) fn rewrite_group<F: FileSystem>(
 ) -> Result<(), Error>
     requires { IsCleaningSome (F.disk files.old) pipes.old log.old writer.old.batch.items }
     ensures goes_on { GoesOn (F.disk files.old) pipes.old log.old writer.old.batch.items (F.disk files.new) pipes.new log.new writer.new.batch.items result }
+    ensures freed { OnOk result (EntriesFrom before (traces_in log.new.traces group)) }
     ensures later { RefusesNoMore (F.is_bounded files.old) (F.is_bounded files.new) (F.meter files.old) (F.meter files.new) }
 {
     mark(alloc, files, pipes, log, writer, group, before)?;

@@ -13,6 +13,7 @@ ghost use Rattle.raft_log_pipe.specs.Pipe.{first_of};
 ghost use Rattle.raft_log_pipes.specs.Kept.{KeepSettings};
 ghost use Rattle.raft_log_pipes.specs.Pipes.{IsAsBefore};
 ghost use Rattle.raft_log_purge.specs.Due.{IsLarge};
+ghost use Rattle.raft_log_purge.specs.Going.{GoesToNeeded};
 ghost use Rattle.raft_log_purge.specs.Reports.{count_in};
 ghost use Rattle.raft_log_traces.specs.GroupTraces.{traces_in};
 
@@ -38,6 +39,7 @@ fn rewrite_each<F: FileSystem>(
 ) -> Result<(), Error>
     requires { IsCleaningSome (F.disk files.old) pipes.old log.old writer.old.batch.items }
     ensures goes_on { GoesOn (F.disk files.old) pipes.old log.old writer.old.batch.items (F.disk files.new) pipes.new log.new writer.new.batch.items result }
+    ensures freed { OnOk result ((group : ℕ) → list_any (λ id. id == group) groups.now ≡ true → EntriesFrom before (traces_in log.new.traces group)) }
     ensures later { RefusesNoMore (F.is_bounded files.old) (F.is_bounded files.new) (F.meter files.old) (F.meter files.new) }
 {
     for group in groups {
@@ -94,6 +96,7 @@ fn write_each<F: FileSystem>(
 ) -> Result<(), Error>
     requires { IsCleaningSome (F.disk files.old) pipes.old log.old writer.old.batch.items }
     ensures goes_on { GoesOn (F.disk files.old) pipes.old log.old writer.old.batch.items (F.disk files.new) pipes.new log.new writer.new.batch.items result }
+    ensures freed { OnOk result ((group : ℕ) → list_any (λ id. id == group) rewritten.now ≡ true → EntriesFrom before (traces_in log.new.traces group)) }
     ensures later { RefusesNoMore (F.is_bounded files.old) (F.is_bounded files.new) (F.meter files.old) (F.meter files.new) }
 {
     mark_each(alloc, files, pipes, log, writer, marked, before)?;
@@ -115,6 +118,8 @@ fn rewrite_groups<F: FileSystem>(
     ensures append { IsAsBefore pipes.old.append (F.disk files.old) pipes.new.append (F.disk files.new) }
     ensures kept { OnOk result (KeepsPipes (F.disk files.old) pipes.old (F.disk files.new) pipes.new) }
     ensures left { OnErr result (LeavesPipes (F.disk files.old) pipes.old (F.disk files.new) pipes.new) }
+    ensures stays { OnOk result (StayFrom (traces_in log.old.traces) (traces_in log.new.traces)) }
+    ensures freed { OnOk result ((group : ℕ) → list_any (λ id. id == group) rewritten.now ≡ true → EntriesFrom before (traces_in log.new.traces group)) }
     ensures later { RefusesNoMore (F.is_bounded files.old) (F.is_bounded files.new) (F.meter files.old) (F.meter files.new) }
 {
     let mut writer = Writer::new(alloc);
@@ -152,7 +157,9 @@ fn mark_groups<F: FileSystem>(
 }
 
 /// The groups that are there, and those that were cleaned and have no mark yet before a file.
-fn groups_of(log: &TracedTables, before: FileSeq) -> Result<Vec<u64>, AllocError> {
+fn groups_of(log: &TracedTables, before: FileSeq) -> Result<Vec<u64>, AllocError>
+    ensures { IfOk result (λ groups. (group : ℕ) → list_any (λ id. id == group) groups.items ≡ false → KeepsFrom before (traces_in log.now.traces group)) }
+{
     let mut groups = log.tables.groups()?;
     for group in log.traces.groups_before(before)? {
         if !log.tables.has_group(group) {
@@ -200,6 +207,8 @@ fn clean_groups<F: FileSystem>(
     ensures cleans { Cleans (F.disk files.old) pipes.old log.old (F.disk files.new) pipes.new log.new result }
     ensures kept { OnOk result (KeepsPipes (F.disk files.old) pipes.old (F.disk files.new) pipes.new) }
     ensures left { OnErr result (LeavesPipes (F.disk files.old) pipes.old (F.disk files.new) pipes.new) }
+    ensures freed { step ≡ Rewrites → OnOk result ((group : ℕ) → (list_any (λ id. id == group) groups.now ≡ false → KeepsFrom before (traces_in log.old.traces group))
+        → EntriesFrom before (traces_in log.new.traces group)) }
     ensures later { RefusesNoMore (F.is_bounded files.old) (F.is_bounded files.new) (F.meter files.old) (F.meter files.new) }
 {
     match step {
@@ -299,7 +308,7 @@ impl PurgeManager {
         clean_groups(self.alloc, files, pipes, log, &groups, before, step)
     }
 
-    /// Lets the append files go that no group needs any more, up to before the barrier, the first ones
+    /// Lets all append files go that no group needs any more, up to before the barrier, the first ones
     /// first, and answers how many went: the last step of raft-engine's `purge_expired_files`. The
     /// barrier is the least file that somebody else keeps. None goes from it on, after an `Err` either.
     pub fn purge_append_files<F: FileSystem>(
@@ -312,6 +321,7 @@ impl PurgeManager {
         requires { CanCleanSome (F.disk files.old) pipes.old log.now }
         ensures cleans { Cleans (F.disk files.old) pipes.old log.now (F.disk files.new) pipes.new log.now result }
         ensures barrier { KeepsFromBarrier barrier pipes.old pipes.new }
+        ensures gone { OnOk result (GoesToNeeded (traces_in log.now.traces) barrier pipes.old.append pipes.new.append) }
         ensures count { IfOk result (λ n. first_of pipes.old.append + n ≡ first_of pipes.new.append) }
         ensures kept { KeepsPipe pipes.old.rewrite (F.disk files.old) pipes.new.rewrite (F.disk files.new) }
         ensures set { KeepSettings pipes.old pipes.new }
@@ -344,6 +354,7 @@ impl PurgeManager {
         requires { CanCleanSome (F.disk files.old) pipes.old log.old }
         ensures cleans { Cleans (F.disk files.old) pipes.old log.old (F.disk files.new) pipes.new log.new result }
         ensures barrier { KeepsFromBarrier barrier pipes.old pipes.new }
+        ensures gone { OnOk result (GoesToNeeded (traces_in log.new.traces) barrier pipes.old.append pipes.new.append) }
         ensures both { OnOk result (KeepBoth (F.disk files.old) pipes.old (F.disk files.new) pipes.new) }
         ensures stands { OnErr result (IsLeftStanding (F.disk files.old) pipes.old log.old (F.disk files.new) pipes.new) }
         ensures later { RefusesNoMore (F.is_bounded files.old) (F.is_bounded files.new) (F.meter files.old) (F.meter files.new) }
@@ -364,7 +375,7 @@ impl PurgeManager {
     /// Cleans the append queue where it is large, and answers the groups that whoever writes them is
     /// told to compact, rising, each once (raft-engine's `purge_expired_files`, of the append queue
     /// alone). First all groups get their marks. Then what lies up to the rewrite mark is rewritten of
-    /// those that aren't left alone. Then the files go that no group needs any more, up to before the
+    /// those that aren't left alone. Then all files go that no group needs any more, up to before the
     /// barrier, the least file that somebody else keeps. A queue that isn't large stays as it is, and no
     /// group is told.
     pub fn purge_expired_files<F: FileSystem>(
@@ -377,6 +388,8 @@ impl PurgeManager {
         requires { CanCleanSome (F.disk files.old) pipes.old log.old }
         ensures cleans { Cleans (F.disk files.old) pipes.old log.old (F.disk files.new) pipes.new log.new result }
         ensures barrier { KeepsFromBarrier barrier pipes.old pipes.new }
+        ensures gone { IsLarge (queue_of pipes.old.append) self.old.purge_threshold
+            → OnOk result (GoesToNeeded (traces_in log.new.traces) barrier pipes.old.append pipes.new.append) }
         ensures both { OnOk result (KeepBoth (F.disk files.old) pipes.old (F.disk files.new) pipes.new) }
         ensures stands { OnErr result (IsLeftStanding (F.disk files.old) pipes.old log.old (F.disk files.new) pipes.new) }
         ensures later { RefusesNoMore (F.is_bounded files.old) (F.is_bounded files.new) (F.meter files.old) (F.meter files.new) }

@@ -2,6 +2,7 @@
 use Rattle.std.specs.Prelude.{ℕ, Bool}
 use Rattle.raft_log_pipes.specs.declared.pipes.DualPipes.{DualPipes}
 use Rattle.raft_log_memtables.specs.declared.memtables.MemTables.{MemTables}
+use Rattle.raft_log_traces.specs.declared.group_traces.GroupTraces.{GroupTraces}
 
 pub record Parts (F : Type 0) : Type 0 where
   pub files : F
@@ -13,3 +14,5 @@ pub record Parts (F : Type 0) : Type 0 where
   pub wrote_unsynced : Bool
   -- so many blocks were read from files for entries
   pub block_reads : ℕ
+  -- what is kept of each group for cleaning
+  pub traces : GroupTraces

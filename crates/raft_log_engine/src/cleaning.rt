@@ -16,6 +16,8 @@ ghost use Rattle.raft_log_engine.specs.declared.fault.EngineFault.TheVariants.{M
 ghost use Rattle.raft_log_memtables.specs.MemTables.{content_in};
 ghost use Rattle.raft_log_pipe.specs.Pipe.{Holds, IsPipe, Numbered, first_of};
 ghost use Rattle.raft_log_pipes.specs.Kept.{KeepSettings};
+ghost use Rattle.raft_log_purge.specs.Going.{GoesToNeeded};
+ghost use Rattle.raft_log_traces.specs.GroupTraces.{traces_in};
 
 use crate::engine::Engine;
 use crate::fault::EngineFault;
@@ -62,6 +64,7 @@ impl<F: FileSystem + Drop> Engine<F> {
         ensures opens_in_tail { self.old.is_stopped ≡ false → StandsAlone F.disk self.old → OpensInTail (directories_of_engine self.new) (F.disk self.new.files) self.new.pipes }
         ensures goes_on_in_tail { StandsAlone F.disk self.old → self.new.is_stopped ≡ false → StandsInTail F.disk self.new }
         ensures barrier { OnOk result (KeepsFromBarrier barrier self.old.pipes self.new.pipes) }
+        ensures gone { extent ≡ All → OnOk result (GoesToNeeded (traces_in self.new.traces) barrier self.old.pipes.append self.new.pipes.append) }
         ensures count { extent ≡ All → IfOk result (λ done. first_of self.old.pipes.append + done.went ≡ first_of self.new.pipes.append) }
         ensures anew { extent ≡ Rewrites → OnOk result (HasOnlyNew self.old.pipes self.new.pipes) }
         ensures rising { IfOk result (λ done. IsStrictlySortedBy nat_cmp done.told.items) }
@@ -105,7 +108,7 @@ impl<F: FileSystem + Drop> Engine<F> {
     }
 
     /// Cleans the append queue (own, of what raft-engine's `purge_expired_files` does): what counts in
-    /// its files is written anew to the rewrite queue, and those go that are needed no more, but none
+    /// its files is written anew to the rewrite queue, and all those go that are needed no more, but none
     /// from the barrier on, the least file that somebody else keeps. Answers how many went. Writes that
     /// weren't synced are synced before. The content stays, whatever is refused. `Marked`, with nothing
     /// done: an opening found a batch of the append queue that belongs to an atomic group. After any
@@ -123,6 +126,7 @@ impl<F: FileSystem + Drop> Engine<F> {
         ensures opens_in_tail { self.old.is_stopped ≡ false → StandsAlone F.disk self.old → OpensInTail (directories_of_engine self.new) (F.disk self.new.files) self.new.pipes }
         ensures goes_on_in_tail { StandsAlone F.disk self.old → self.new.is_stopped ≡ false → StandsInTail F.disk self.new }
         ensures barrier { OnOk result (KeepsFromBarrier barrier self.old.pipes self.new.pipes) }
+        ensures gone { OnOk result (GoesToNeeded (traces_in self.new.traces) barrier self.old.pipes.append self.new.pipes.append) }
         ensures count { IfOk result (λ n. first_of self.old.pipes.append + n ≡ first_of self.new.pipes.append) }
         ensures all_written { OnOk result (HasWritten F.disk self.new (answers_on F.disk self.new) []) }
         ensures reads { self.new.block_reads ≡ self.old.block_reads }

@@ -13,6 +13,7 @@ returns-in_err-flush-clause-finishes g c = record {
   append = c.in_err-flush.ensures.goes_on.append;
   kept = none_ok _ _ c.from_residual.result c.from_residual.ensures.1;
   left = λ content s. when_err c.from_residual.result (c.in_err-flush.ensures.goes_on.left content s);
+  stays = λ content s. none_ok _ _ c.from_residual.result c.from_residual.ensures.1;
 }
 
 pub sync-requires-after_bounds : goal.sync-requires-after_bounds
@@ -27,6 +28,7 @@ returns-clause-finishes g c =
       append = both.append;
       kept = both.kept;
       left = both.left;
+      stays = both.stays;
     }
 
 pub returns-clause-later : goal.returns-clause-later

@@ -15,7 +15,9 @@ use Rattle.raft_log_recovery.proofs.LengthLemmas.{placed_lengths}
 use Rattle.raft_log_traced.specs.Places.{items_moved}
 use Rattle.raft_log_blocks.proofs.NewEntries.{block_fits}
 use Rattle.raft_log_disk.proofs.RefusalLemmas.{no_more_same}
+use Rattle.raft_log_traces.specs.GroupTraces.{traces_in}
 use Rattle.raft_log_cleaner.specs.Cleaning.{GoesOn, IsCleaning}
+use Rattle.raft_log_cleaner.proofs.Freeing.{stay_same}
 use Rattle.raft_log_cleaner.proofs.Going.{none_ok, stopped, when_err}
 use Rattle.raft_log_cleaner.proofs.Keeping.{pipe_as_before, pipe_left, pipe_refused}
 use Rattle.raft_log_cleaner.proofs.Standing as standing
@@ -59,6 +61,7 @@ returns-in_err-written-clause-goes_on g c =
         append = pipe_left p.append q.append d e s.appends [] (c.in_err-written.ensures.other.holds s.appends [] s.append) (pipe_as_before p.append q.append d e c.in_err-written.ensures.other);
         rewrite = pipe_refused p.rewrite q.rewrite d e s.rewrites s.fresh s.rewrite c.in_err-written.ensures.set.1 c.in_err-written.ensures.call.paths c.in_err-written.ensures.call.nearly c.in_err-written.ensures.call.torn;
       });
+      stays = λ content s. none_ok _ _ c.from_residual.result c.from_residual.ensures.1;
     })
 
 pub returns-clause-goes_on : goal.returns-clause-goes_on
@@ -102,4 +105,5 @@ returns-clause-goes_on g c =
         first = ap first_of c.in_ok-written.ensures.other.same;
       };
       left = λ content s. tt;
+      stays = λ content s. stay_same (traces_in c.args.log.now.traces) (traces_in c.set_places.new.self.traces) (ap traces_in c.set_places.ensures.traces);
     }

@@ -1,6 +1,8 @@
 -- A sync of the rewrite queue.
-use Rattle.std.proofs.Common.{[], sym, ap, ◌∙◌}
+use Rattle.std.proofs.Common.{[], refl, sym, ap, ◌∙◌}
 use Rattle.raft_log_pipe.specs.Pipe.{first_of}
+use Rattle.raft_log_traces.specs.GroupTraces.{traces_in}
+use Rattle.raft_log_cleaner.proofs.Freeing.{stay_same}
 use Rattle.raft_log_cleaner.proofs.Going.{none_ok, when_err}
 use Rattle.raft_log_cleaner.proofs.Keeping.{pipe_as_before, pipe_left, pipe_on}
 use Rattle.raft_log_cleaner.proofs.Standing as standing
@@ -25,6 +27,7 @@ returns-in_err-sync-clause-goes_on g c =
         rewrite = pipe_left p.rewrite q.rewrite d e s.rewrites s.fresh (call.err s.rewrites s.fresh s.rewrite)
             (pipe_on p.rewrite q.rewrite d e (call.same.0, call.same.1, q.rewrites ∙ sym p.rewrites) c.in_err-sync.ensures.set.1 call.paths call.names);
       });
+      stays = λ content s. none_ok _ _ c.from_residual.result c.from_residual.ensures.1;
     }
 
 pub returns-clause-goes_on : goal.returns-clause-goes_on
@@ -46,6 +49,7 @@ returns-clause-goes_on g c =
         first = ap first_of other.same;
       };
       left = λ content s. tt;
+      stays = λ content s. stay_same (traces_in c.args.log.now.traces) (traces_in c.args.log.now.traces) refl;
     }
 
 pub returns-clause-synced : goal.returns-clause-synced

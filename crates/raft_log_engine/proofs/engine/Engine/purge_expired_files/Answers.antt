@@ -13,7 +13,7 @@ returns-then-not-needs_rewrite_log_files-clause-opens_still g c =
     let d = g.F.FileSystem.disk c.self.inside.files in
     let p = c.self.inside.pipes in
     rw (← c.self.view_is) (λ sound alone.
-    let kept = kept_by (g.F.FileSystem.disk) (parts c.self.inside.files c.self.inside.pipes c.self.inside.traced.tables c.self.inside.is_stopped c.self.inside.wrote_unsynced c.self.inside.blocks.reads) (c.self.invariant c.if-self.false).batches sound.synced in
+    let kept = kept_by (g.F.FileSystem.disk) (parts c.self.inside.files c.self.inside.pipes c.self.inside.traced.tables c.self.inside.is_stopped c.self.inside.wrote_unsynced c.self.inside.blocks.reads c.self.inside.traced.traces) (c.self.invariant c.if-self.false).batches sound.synced in
     kept_opens d p c.self.inside.traced.tables kept.0 kept.1 (met.is_named c.self.inside.files) alone kept.2)
 
 pub returns-then-not-needs_rewrite_log_files-clause-opens_in_tail : goal.returns-then-not-needs_rewrite_log_files-clause-opens_in_tail
