@@ -13,6 +13,7 @@ ghost use Rattle.raft_log_pipe.specs.Pipe.{first_of};
 ghost use Rattle.raft_log_pipes.specs.Kept.{KeepSettings};
 ghost use Rattle.raft_log_pipes.specs.Pipes.{IsAsBefore};
 ghost use Rattle.raft_log_purge.specs.Due.{IsLarge};
+ghost use Rattle.raft_log_purge.specs.Going.{GoesToNeeded};
 ghost use Rattle.raft_log_purge.specs.Reports.{count_in};
 ghost use Rattle.raft_log_traces.specs.GroupTraces.{traces_in};
 
@@ -299,7 +300,7 @@ impl PurgeManager {
         clean_groups(self.alloc, files, pipes, log, &groups, before, step)
     }
 
-    /// Lets the append files go that no group needs any more, up to before the barrier, the first ones
+    /// Lets all append files go that no group needs any more, up to before the barrier, the first ones
     /// first, and answers how many went: the last step of raft-engine's `purge_expired_files`. The
     /// barrier is the least file that somebody else keeps. None goes from it on, after an `Err` either.
     pub fn purge_append_files<F: FileSystem>(
@@ -312,6 +313,7 @@ impl PurgeManager {
         requires { CanCleanSome (F.disk files.old) pipes.old log.now }
         ensures cleans { Cleans (F.disk files.old) pipes.old log.now (F.disk files.new) pipes.new log.now result }
         ensures barrier { KeepsFromBarrier barrier pipes.old pipes.new }
+        ensures gone { OnOk result (GoesToNeeded (traces_in log.now.traces) barrier pipes.old.append pipes.new.append) }
         ensures count { IfOk result (λ n. first_of pipes.old.append + n ≡ first_of pipes.new.append) }
         ensures kept { KeepsPipe pipes.old.rewrite (F.disk files.old) pipes.new.rewrite (F.disk files.new) }
         ensures set { KeepSettings pipes.old pipes.new }
@@ -344,6 +346,7 @@ impl PurgeManager {
         requires { CanCleanSome (F.disk files.old) pipes.old log.old }
         ensures cleans { Cleans (F.disk files.old) pipes.old log.old (F.disk files.new) pipes.new log.new result }
         ensures barrier { KeepsFromBarrier barrier pipes.old pipes.new }
+        ensures gone { OnOk result (GoesToNeeded (traces_in log.new.traces) barrier pipes.old.append pipes.new.append) }
         ensures both { OnOk result (KeepBoth (F.disk files.old) pipes.old (F.disk files.new) pipes.new) }
         ensures stands { OnErr result (IsLeftStanding (F.disk files.old) pipes.old log.old (F.disk files.new) pipes.new) }
         ensures later { RefusesNoMore (F.is_bounded files.old) (F.is_bounded files.new) (F.meter files.old) (F.meter files.new) }
@@ -364,7 +367,7 @@ impl PurgeManager {
     /// Cleans the append queue where it is large, and answers the groups that whoever writes them is
     /// told to compact, rising, each once (raft-engine's `purge_expired_files`, of the append queue
     /// alone). First all groups get their marks. Then what lies up to the rewrite mark is rewritten of
-    /// those that aren't left alone. Then the files go that no group needs any more, up to before the
+    /// those that aren't left alone. Then all files go that no group needs any more, up to before the
     /// barrier, the least file that somebody else keeps. A queue that isn't large stays as it is, and no
     /// group is told.
     pub fn purge_expired_files<F: FileSystem>(
@@ -377,6 +380,8 @@ impl PurgeManager {
         requires { CanCleanSome (F.disk files.old) pipes.old log.old }
         ensures cleans { Cleans (F.disk files.old) pipes.old log.old (F.disk files.new) pipes.new log.new result }
         ensures barrier { KeepsFromBarrier barrier pipes.old pipes.new }
+        ensures gone { IsLarge (queue_of pipes.old.append) self.old.purge_threshold
+            → OnOk result (GoesToNeeded (traces_in log.new.traces) barrier pipes.old.append pipes.new.append) }
         ensures both { OnOk result (KeepBoth (F.disk files.old) pipes.old (F.disk files.new) pipes.new) }
         ensures stands { OnErr result (IsLeftStanding (F.disk files.old) pipes.old log.old (F.disk files.new) pipes.new) }
         ensures later { RefusesNoMore (F.is_bounded files.old) (F.is_bounded files.new) (F.meter files.old) (F.meter files.new) }
