@@ -23,6 +23,7 @@ use raft_nodes_on_files::{FileNode, log_settings};
 use run_rows::run_rows;
 use std::alloc::{AllocError, Global};
 use std::io::{self, Read};
+use std::thread::Threads;
 
 // A script's answers, and how it ended.
 #[derive(Drop)]
@@ -41,11 +42,17 @@ fn settings_of(alloc: Global, name: &str) -> Result<Config, AllocError> {
     log_settings(alloc, "raft", file_size, threshold)
 }
 
-fn run(alloc: Global, name: &str, script: &[u8]) -> Result<Answered, AllocError> {
+fn run<R: Threads + Sync>(
+    rt: &R,
+    alloc: Global,
+    name: &str,
+    script: &[u8],
+) -> Result<Answered, AllocError> {
     let settings = settings_of(alloc, name)?;
     let mut reader = script;
     let mut written = Vec::new(alloc);
-    let end = run_script::<FileNode<AddingMachine>, _, _>(
+    let end = run_script::<FileNode<AddingMachine>, _, _, _>(
+        rt,
         alloc,
         settings,
         &mut reader,
@@ -55,20 +62,25 @@ fn run(alloc: Global, name: &str, script: &[u8]) -> Result<Answered, AllocError>
 }
 
 // Runs a script, if it has a name, and prints what it answers.
-fn print_run(rt: &HostRuntime, name: Option<&str>, script: &[u8]) -> io::Result<()> {
+fn print_run<R: Print + Threads + Sync>(
+    rt: &R,
+    alloc: Global,
+    name: Option<&str>,
+    script: &[u8],
+) -> io::Result<()> {
     let Some(name) = name else {
         return Ok(());
     };
     println!(rt; "== {name}")?;
     if name.ends_with(", listed") {
-        return print_listed(rt, str::from_utf8(script).unwrap_or("no UTF-8"));
+        return print_listed(rt, alloc, str::from_utf8(script).unwrap_or("no UTF-8"));
     }
-    let Ok(Answered { written, end }) = run(rt.alloc(), name, script) else {
+    let Ok(Answered { written, end }) = run(rt, alloc, name, script) else {
         return println!(rt; "no memory");
     };
     let text = str::from_utf8(written.as_slice()).unwrap_or("no UTF-8");
     if name.ends_with(", counted") {
-        print_counted(rt, text)?;
+        print_counted(rt, alloc, text)?;
     } else {
         print!(rt; "{text}")?;
     }
@@ -76,19 +88,19 @@ fn print_run(rt: &HostRuntime, name: Option<&str>, script: &[u8]) -> io::Result<
 }
 
 fn main(rt: HostRuntime) -> io::Result<()> {
-    println!(rt; "{}", run_rows(rt.alloc())?)?;
+    println!(rt; "{}", run_rows(&rt, rt.alloc())?)?;
     let mut input = String::new(rt.alloc());
     rt.stdin().read_to_string(&mut input)?;
     let mut name = None;
     let mut script = Vec::new(rt.alloc());
     for line in input.lines() {
         if let Some(next) = line.strip_prefix("== ") {
-            print_run(&rt, name, script.as_slice())?;
+            print_run(&rt, rt.alloc(), name, script.as_slice())?;
             name = Some(next);
             script.clear();
         } else {
             push_lines(rt.alloc(), &mut script, line)?;
         }
     }
-    print_run(&rt, name, script.as_slice())
+    print_run(&rt, rt.alloc(), name, script.as_slice())
 }

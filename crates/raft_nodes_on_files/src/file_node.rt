@@ -20,6 +20,7 @@ use raft_node::{Fed, Node, Opened, Outcome};
 use raft_store::StoreFault;
 use std::alloc::{AllocError, Global};
 use std::mem;
+use std::thread::Threads;
 
 /// A node of a cluster, on files of its own in memory (own).
 #[derive(Drop)]
@@ -153,7 +154,12 @@ impl<M: StateMachine> ClusterNode for FileNode<M> {
 
     ghost states = { file_node_states M.rules M.state };
 
-    fn begin(alloc: Global, id: u64, settings: &Config) -> Result<Self, AllocError> {
+    fn begin<R: Threads + Sync>(
+        rt: &R,
+        alloc: Global,
+        id: u64,
+        settings: &Config,
+    ) -> Result<Self, AllocError> {
         let mut node = FileNode {
             alloc,
             id,
@@ -161,7 +167,7 @@ impl<M: StateMachine> ClusterNode for FileNode<M> {
             files: LogFiles::new(alloc, settings.clone()?),
         };
         // Where its files can't be opened it is down.
-        let _ = node.reopen(1);
+        let _ = node.reopen(rt, 1);
         Ok(node)
     }
 
@@ -259,13 +265,17 @@ impl<M: StateMachine> ClusterNode for FileNode<M> {
         self.go_down();
     }
 
-    fn reopen(&mut self, _workers: u64) -> Result<Sequence<NodeOutcome>, Stop> {
+    fn reopen<R: Threads + Sync>(
+        &mut self,
+        rt: &R,
+        workers: u64,
+    ) -> Result<Sequence<NodeOutcome>, Stop> {
         if self.up.is_some() {
             return Ok(Sequence::new(self.alloc));
         }
         let none = LogFiles::new(self.alloc, Config::default(self.alloc));
         let files = mem::replace(&mut self.files, none);
-        match open_node(self.alloc, self.id, files) {
+        match open_node(rt, self.alloc, self.id, files, workers) {
             Ok(opened) => self.opened(opened),
             Err(Unopened { stop, files }) => {
                 self.files = files;

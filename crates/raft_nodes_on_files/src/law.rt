@@ -23,7 +23,8 @@ pub fn nodes_on_files_keep_the_law<M: StateMachine>()
 /// of which the headline speaks, whichever of the states that its files may show each node is in: each
 /// node has applied a front of it, and what was told stands on it with the fold's answers. It only
 /// grows.
-pub fn run_on_files<M: StateMachine>(
+pub fn run_on_files<M: StateMachine, R: Threads + Sync>(
+    rt: &R,
     cluster: &mut ListedCluster<FileNode<M>>,
     events: Vec<ClusterEvent>,
 ) -> usize
@@ -33,7 +34,7 @@ pub fn run_on_files<M: StateMachine>(
     ensures grow { OnlyGrow (lists_of cluster.old.groups) (lists_of cluster.new.groups) }
 {
     nodes_on_files_keep_the_law::<M>();
-    cluster.run(events)
+    cluster.run(rt, events)
 }
 
 /// Runs the events of a round on threads, each for another node on files, and says how many happened

@@ -1,5 +1,5 @@
 //! A node is opened with its files, and gives them back.
-ghost use Rattle.std.specs.Prelude.{◌≡◌, ◌⊎◌, IfErr, IfOk, false};
+ghost use Rattle.std.specs.Prelude.{◌≡◌, ◌⊎◌, IfErr, IfOk, false, min};
 ghost use Rattle.raft_content_log.specs.Leaving.{LeavesOnly};
 ghost use Rattle.raft_log_disk.specs.MemorySystem.{disk_in, meter_in};
 ghost use Rattle.raft_log_engine.specs.Caused.{IsSyncFault};
@@ -18,6 +18,10 @@ use raft_machines::StateMachine;
 use raft_node::{Node, NotOpened, Opened};
 use raft_store::Store;
 use std::alloc::Global;
+use std::thread::Threads;
+
+/// The most threads that an opening starts, however many workers are asked for.
+const MOST_WORKERS: u64 = 64;
 
 /// Where a node keeps its groups.
 pub type Kept<M> = Store<M, MemoryLog>;
@@ -29,8 +33,21 @@ pub struct Unopened {
     pub files: LogFiles,
 }
 
-// The log over the files. They aren't opened where something in them passes by chance as a record.
-fn open_log(alloc: Global, files: LogFiles) -> Result<MemoryLog, Unopened>
+// How many threads open files for so many workers.
+fn threads_for(workers: u64) -> usize
+    ensures { result ≡ min workers MOST_WORKERS }
+{
+    workers.min(MOST_WORKERS) as usize
+}
+
+// The log over the files, opened by so many workers. They aren't opened where something in them passes
+// by chance as a record.
+fn open_log<R: Threads + Sync>(
+    rt: &R,
+    alloc: Global,
+    mut files: LogFiles,
+    workers: u64,
+) -> Result<MemoryLog, Unopened>
     ensures sound { IfOk result (λ l. l.has_failed ≡ false) }
     ensures found { IfOk result (λ l. IsFoundAs files (answers_on disk_in l.engine)) }
     ensures leaves { IfOk result (λ l. LeavesOnly (leaves_of_log disk_in l) (answers_on disk_in l.engine)) }
@@ -42,7 +59,8 @@ fn open_log(alloc: Global, files: LogFiles) -> Result<MemoryLog, Unopened>
             files,
         });
     }
-    match MemoryLog::open(alloc, files) {
+    files.settings.recovery_threads = threads_for(workers);
+    match MemoryLog::open_by_workers(rt, alloc, files) {
         Ok(log) => Ok(log),
         Err(LogNotOpened { fault, files }) => Err(Unopened {
             stop: quiet_stop(alloc, cause_of_log(fault)),
@@ -59,16 +77,19 @@ fn cause_of_refusal(why: FileRefusal) -> StopCause {
     }
 }
 
-/// A node with all groups that its files have.
-pub fn open_node<M: StateMachine>(
+/// A node with all groups that its files have, which so many workers read: 0 counts as 1, and there
+/// are no more than files or than 64.
+pub fn open_node<M: StateMachine, R: Threads + Sync>(
+    rt: &R,
     alloc: Global,
     id: u64,
     files: LogFiles,
+    workers: u64,
 ) -> Result<Opened<M, Kept<M>>, Unopened>
     ensures ok { IfOk result (λ o. IsOpened M.rules M.state files id o.node o.outcomes.items) }
     ensures err { IfErr result (λ u. IsRefusedOpening files u.stop u.files ⊎ IsLeftOpening M.rules files id u.stop u.files) }
 {
-    let log = open_log(alloc, files)?;
+    let log = open_log(rt, alloc, files, workers)?;
     match Node::open(alloc, id, Store::new(alloc, log)) {
         Ok(opened) => Ok(opened),
         Err(NotOpened { fault, storage }) => Err(Unopened {
