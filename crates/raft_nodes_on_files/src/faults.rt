@@ -39,10 +39,7 @@ fn cause_of<L: NodeLog>(cause: Cause<StoreFault<L::Fault>>) -> StopCause
 }
 
 // A stop, with the tokens that waited, which are handed over.
-fn stop_of<L: NodeLog>(
-    cause: Cause<StoreFault<L::Fault>>,
-    unknown: Vec<UnknownTokens>,
-) -> Stop
+fn stop_of<L: NodeLog>(cause: Cause<StoreFault<L::Fault>>, unknown: Vec<UnknownTokens>) -> Stop
     ensures { result ≡ stop_of L.cause cause unknown.items }
 {
     Stop {

@@ -10,7 +10,6 @@ use crate::file_node::FileNode;
 use crate::log_node::LogNode;
 use crate::node_log::NodeLog;
 use raft_cluster_events::{ClusterEvent, ClusterNode};
-use raft_content_log::CrashLog;
 use raft_listed_cluster::{ListedCluster, RoundRefusal};
 use raft_log_engine::MemoryLog;
 use raft_machines::StateMachine;
@@ -19,8 +18,6 @@ use std::thread::Threads;
 /// A node over any log keeps the law that a cluster asks of its nodes: wherever it stands in a history,
 /// each of its calls, crashes and openings leads its groups on as the rules say, and it answers so.
 pub fn log_nodes_keep_the_law<M: StateMachine, L: NodeLog>()
-where
-    <L as CrashLog>::Choice: Drop,
     ensures { KeepsLaw M.rules ⟦<LogNode<M, L> as ClusterNode>⟧.acts ⟦<LogNode<M, L> as ClusterNode>⟧.states }
 {}
 

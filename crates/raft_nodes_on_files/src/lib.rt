@@ -13,6 +13,7 @@ mod over_log;
 mod readers;
 mod settings;
 
+pub use faults::quiet_stop;
 pub use file_node::FileNode;
 pub use law::{
     log_nodes_keep_the_law, nodes_on_files_keep_the_law, run_on_files, run_round_on_files,

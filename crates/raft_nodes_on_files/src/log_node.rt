@@ -16,7 +16,6 @@ use raft_cluster_events::{
     ClusterNode, CrashChoice, CrashRefusal, GroupCommand, Leading, NodeError, NodeOutcome,
     NodeRefusal, Sequence, Stop, StopCause, Unsaid,
 };
-use raft_content_log::CrashLog;
 use raft_machines::StateMachine;
 use raft_node::{Fed, Node, Opened, Outcome};
 use raft_store::{Store, StoreFault};
@@ -65,7 +64,10 @@ fn stopped_behind(stop: Stop, unsaid: Unsaid) -> NodeError
 impl<M: StateMachine, L: NodeLog> LogNode<M, L> {
     // What the node did, as a cluster takes it. Without memory for that the node stops, and the event's
     // own tokens stay unknown with the others.
-    fn taken(&mut self, answered: Result<Outcome, NodeFault<L::Fault>>) -> Result<NodeOutcome, NodeError>
+    fn taken(
+        &mut self,
+        answered: Result<Outcome, NodeFault<L::Fault>>,
+    ) -> Result<NodeOutcome, NodeError>
         ensures id { self.new.id ≡ self.old.id }
         ensures up { is_some self.new.up ≡ is_some self.old.up }
         ensures passed { IfSome self.old.up (λ mid. IsPassed (kind_of M.StateMachine.own L.ContentLog.own L.CrashLog.own L.NodeLog.own) self.old mid answered result self.new) }
@@ -143,10 +145,7 @@ impl<M: StateMachine, L: NodeLog> LogNode<M, L> {
     }
 }
 
-impl<M: StateMachine, L: NodeLog> ClusterNode for LogNode<M, L>
-where
-    <L as CrashLog>::Choice: Drop,
-{
+impl<M: StateMachine, L: NodeLog> ClusterNode for LogNode<M, L> {
     ghost use Rattle.raft_nodes_on_files.specs.Acts.{log_node_acts, log_node_states};
 
     type Machine = M;

@@ -21,10 +21,7 @@ pub fn machine_of<M: StateMachine, L: NodeLog>(
 }
 
 /// The last place that the group's machine has run; none once the node has failed.
-pub fn place_of<M: StateMachine, L: NodeLog>(
-    node: &Node<M, Store<M, L>>,
-    group: u64,
-) -> Option<u64>
+pub fn place_of<M: StateMachine, L: NodeLog>(node: &Node<M, Store<M, L>>, group: u64) -> Option<u64>
     ensures { result ≡ place_in (unless_failed node.now.groups.has_failed (running_in M.state node.now.machines group)) }
 {
     node.applied(group)

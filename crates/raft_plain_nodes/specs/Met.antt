@@ -12,7 +12,7 @@ pub record Meets (old new : Option ℕ) (met : Option FusedFault) : Type 0 where
   pub refused : met ≡ Some Refused → is_some old ≡ true
 
 pub meets_none : (left : Option ℕ) → Meets left left None
-meets_none left = record { fuse = refl; refused = λ no. absurd (let wrong : None {A = FusedFault} ≡ Some Refused = no in cc) }
+meets_none left = record { fuse = refl; refused = λ no. absurd (let wrong : None ≡ Some Refused = no in cc) }
 
 -- the log in it fails
 pub meets_plain : (left next : Option ℕ) (fault : PlainFault) → is_some next ≡ is_some left → Meets left next (Some (Plain fault))

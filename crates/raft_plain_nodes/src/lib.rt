@@ -2,5 +2,8 @@
 #![tactic(auto)]
 
 mod fused_log;
+mod law;
+mod plain_log;
 
 pub use fused_log::{FusedFault, FusedLog};
+pub use law::{PlainNode, plain_nodes_keep_the_law, run_on_plain_logs};
