@@ -5,12 +5,15 @@ ghost use Rattle.std.specs.Ordering.{nat_cmp};
 ghost use Rattle.std.specs.Prelude.{◌≡◌, ◌+◌, ◌↔◌, ℕ, true, false, IfOk, IsTrue, OnErr, OnOk, Option};
 ghost use Rattle.raft_log_cleaner.specs.Cleaning.{CanCleanSome, Cleans, IsLeftStanding, KeepsFromBarrier};
 ghost use Rattle.raft_log_cleaner.specs.Pipes.{KeepBoth};
-ghost use Rattle.raft_log_cleaner.specs.Told.{is_among};
+ghost use Rattle.raft_log_cleaner.specs.Told.{is_among, queue_of};
 ghost use Rattle.raft_log_cleaning.specs.Extents.{HasOnlyNew, MayClean};
-ghost use Rattle.raft_log_cleaning.specs.declared.cleaning.Extent.TheVariants.{All, Rewrites};
+ghost use Rattle.raft_log_cleaning.specs.declared.cleaning.Extent.TheVariants.{All, Expired, Rewrites};
 ghost use Rattle.raft_log_disk.specs.Cause.{RefusesNoMore};
 ghost use Rattle.raft_log_memtables.specs.MemTables.{content_in};
 ghost use Rattle.raft_log_pipe.specs.Pipe.{first_of};
+ghost use Rattle.raft_log_purge.specs.Due.{IsLarge};
+ghost use Rattle.raft_log_purge.specs.Going.{GoesToNeeded};
+ghost use Rattle.raft_log_traces.specs.GroupTraces.{traces_in};
 
 use raft_log_cleaner::{PurgeManager, RewriteStep};
 use raft_log_files::{Error, FileSystem};
@@ -64,6 +67,7 @@ fn clean_all<F: FileSystem>(
     ensures both { OnOk result (KeepBoth (F.disk files.old) pipes.old (F.disk files.new) pipes.new) }
     ensures stands { OnErr result (IsLeftStanding (F.disk files.old) pipes.old log.old (F.disk files.new) pipes.new) }
     ensures barrier { OnOk result (KeepsFromBarrier barrier pipes.old pipes.new) }
+    ensures gone { OnOk result (GoesToNeeded (traces_in log.new.traces) barrier pipes.old.append pipes.new.append) }
     ensures count { IfOk result (λ n. first_of pipes.old.append + n ≡ first_of pipes.new.append) }
     ensures later { RefusesNoMore (F.is_bounded files.old) (F.is_bounded files.new) (F.meter files.old) (F.meter files.new) }
 {
@@ -110,6 +114,9 @@ pub fn clean<F: FileSystem>(
     ensures both { OnOk result (KeepBoth (F.disk files.old) pipes.old (F.disk files.new) pipes.new) }
     ensures stands { OnErr result (IsLeftStanding (F.disk files.old) pipes.old log.old (F.disk files.new) pipes.new) }
     ensures barrier { OnOk result (KeepsFromBarrier barrier pipes.old pipes.new) }
+    ensures gone { extent ≡ All → OnOk result (GoesToNeeded (traces_in log.new.traces) barrier pipes.old.append pipes.new.append) }
+    ensures expired { extent ≡ Expired → IsLarge (queue_of pipes.old.append) manager.old.purge_threshold
+        → OnOk result (GoesToNeeded (traces_in log.new.traces) barrier pipes.old.append pipes.new.append) }
     ensures count { extent ≡ All → IfOk result (λ done. first_of pipes.old.append + done.went ≡ first_of pipes.new.append) }
     ensures anew { extent ≡ Rewrites → OnOk result (HasOnlyNew pipes.old pipes.new) }
     ensures rising { IfOk result (λ done. IsStrictlySortedBy nat_cmp done.told.items) }
