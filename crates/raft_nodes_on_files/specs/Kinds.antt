@@ -37,7 +37,7 @@ pub record NodeKind : Type 1 where
 
 -- that of a machine and a log
 abbrev pub kind_of : {Machine Log Fault Files Settings Choice Refusal : Type 0} → Ghosts Machine → ContentGhosts Log Fault → CrashGhosts Log Choice Refusal Fault
-    → NodeGhosts Log Files Settings Choice Refusal Fault → NodeKind
+    → NodeGhosts Log Files Settings Fault Choice Refusal → NodeKind
 kind_of {Machine = Machine} {Log = Log} {Fault = Fault} {Files = Files} {Settings = Settings} {Choice = Choice} {Refusal = Refusal} machine log crash node = record {
   Machine = Machine;
   machine = machine;

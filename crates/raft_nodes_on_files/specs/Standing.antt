@@ -20,7 +20,7 @@ pub record MayBeUp (rules : MachineRules) (id : â„•) (n : NodeValue) (group : â„
 module _ (k : NodeKind) where
   -- a node of this kind, and one that is up
   abbrev pub NodeOf : Type 0
-  NodeOf = LogNode k.Machine k.Log k.Files k.Settings k.Choice k.Refusal k.Fault k.machine
+  NodeOf = LogNode k.Machine k.Log k.Files k.Settings k.Fault k.Choice k.Refusal k.machine
 
   abbrev pub UpNode : Type 0
   UpNode = Node k.Machine (Keeping k) (KeepingFault k) k.machine
