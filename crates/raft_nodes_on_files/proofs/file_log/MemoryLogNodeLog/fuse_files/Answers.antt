@@ -2,5 +2,5 @@
 use Rattle.raft_nodes_on_files.proofs.Files.{finds_same}
 use Rattle.raft_nodes_on_files.proofs.file_log.MemoryLogNodeLog.fuse_files.Goals as goal
 
-pub returns-clause-same : goal.returns-clause-same
-returns-clause-same c = finds_same c.args.files.now c.fuse.new.self c.fuse.ensures.disk c.fuse.ensures.settings
+pub returns : goal.returns
+returns c = record { same = finds_same c.args.files.now c.fuse.new.self c.fuse.ensures.disk c.fuse.ensures.settings }
