@@ -46,14 +46,19 @@ impl<N: ClusterNode> Model for Cluster<N> {
 impl<N: ClusterNode> Cluster<N> {
     /// A cluster of nodes of these ids that have nothing. A node whose files can't be opened is down.
     /// Where an id stands twice its first node gets the events.
-    pub fn new(alloc: Global, ids: &[u64], settings: &N::Settings) -> Result<Cluster<N>, AllocError>
+    pub fn new<R: Threads + Sync>(
+        rt: &R,
+        alloc: Global,
+        ids: &[u64],
+        settings: &N::Settings,
+    ) -> Result<Cluster<N>, AllocError>
         ensures ids { IfOk result (λ c. ids_of N.acts c.nodes ≡ ids.now) }
         ensures sent { IfOk result (λ c. c.sent ≡ []) }
         ensures history { IfOk result (λ c. c.history ≡ []) }
     {
         let mut slots = Vec::new(alloc);
         for id in ids {
-            slots.push(Slot::new(N::begin(alloc, *id, settings)?))?;
+            slots.push(Slot::new(N::begin(rt, alloc, *id, settings)?))?;
         }
         Ok(Cluster {
             alloc,
@@ -64,7 +69,7 @@ impl<N: ClusterNode> Cluster<N> {
     }
 
     /// One event. An `Err` is want of memory before it, and changes nothing.
-    pub fn step(&mut self, event: ClusterEvent) -> Result<(), AllocError>
+    pub fn step<R: Threads + Sync>(&mut self, rt: &R, event: ClusterEvent) -> Result<(), AllocError>
         ensures ok { OnOk result (Steps N.acts self.old event self.new) }
         ensures err { OnErr result (self.new ≡ self.old) }
         ensures headline { KeepsLaw N.Machine.rules N.acts N.states → HasHeadline N.Machine.rules N.acts N.states self.new.nodes (frames_of self.new.sent) self.new.history }
@@ -72,6 +77,7 @@ impl<N: ClusterNode> Cluster<N> {
         self.replays();
         self.history.reserve(1)?;
         let outcome = take_turn(
+            rt,
             self.alloc,
             &mut self.slots,
             &mut self.sent,
@@ -85,14 +91,14 @@ impl<N: ClusterNode> Cluster<N> {
 
     /// Runs events in order, and says how many (own). Fewer than all only for want of memory before
     /// one. Where the nodes keep their law, all that happened keeps the headline of each group.
-    pub fn run(&mut self, events: Vec<ClusterEvent>) -> usize
+    pub fn run<R: Threads + Sync>(&mut self, rt: &R, events: Vec<ClusterEvent>) -> usize
         ensures within { result ≤ vec_len events }
         ensures runs { Runs N.acts self.old (take result events.items) self.new }
         ensures headline { KeepsLaw N.Machine.rules N.acts N.states → HasHeadline N.Machine.rules N.acts N.states self.new.nodes (frames_of self.new.sent) self.new.history }
     {
         let mut count = 0;
         for event in events {
-            let Ok(()) = self.step(event) else {
+            let Ok(()) = self.step(rt, event) else {
                 self.replays();
                 return count;
             };
@@ -203,6 +209,7 @@ where
             events.as_slice(),
         );
         let count = settle_all(
+            rt,
             self.alloc,
             &mut self.slots,
             &mut self.sent,

@@ -21,6 +21,7 @@ use raft_cluster_events::{
 };
 use raft_sent_frames::{SentFrames, Sequence};
 use std::alloc::{AllocError, Global};
+use std::thread::Threads;
 
 // What becomes of an event that the node didn't do.
 fn over(error: NodeError) -> EventOutcome
@@ -175,7 +176,8 @@ fn crash<N: ClusterNode>(node: &mut N, choice: CrashChoice) -> Result<Answer, Al
 
 /// An event that isn't turned away comes to its node, which answers it, or refuses a crash. An `Err` is
 /// the node's want of memory for a crash, and changes nothing.
-pub fn ask_node<N: ClusterNode>(
+pub fn ask_node<N: ClusterNode, R: Threads + Sync>(
+    rt: &R,
     node: &mut N,
     sent: &SentFrames,
     event: &ClusterEvent,
@@ -209,7 +211,7 @@ pub fn ask_node<N: ClusterNode>(
             Ok(Answer::Quiet(Ok(())))
         }
         ClusterEvent::Crash { choice, .. } => crash(node, *choice),
-        ClusterEvent::Reopen { workers, .. } => Ok(Answer::Opened(node.reopen(*workers))),
+        ClusterEvent::Reopen { workers, .. } => Ok(Answer::Opened(node.reopen(rt, *workers))),
     }
 }
 
@@ -234,7 +236,8 @@ pub fn settle<N: ClusterNode>(
 
 /// An event that isn't turned away comes to its node, which may refuse a crash. An `Err` is the node's
 /// want of memory for a crash, and changes nothing.
-pub fn come_to<N: ClusterNode>(
+pub fn come_to<N: ClusterNode, R: Threads + Sync>(
+    rt: &R,
     alloc: Global,
     sent: &mut SentFrames,
     node: &mut N,
@@ -245,13 +248,14 @@ pub fn come_to<N: ClusterNode>(
     ensures node { OnErr result (node.new ≡ node.old) }
     ensures frames { OnErr result (sent.new ≡ sent.old) }
 {
-    let answer = ask_node(node, sent, event)?;
+    let answer = ask_node(rt, node, sent, event)?;
     Ok(settle(alloc, sent, node, answer))
 }
 
 /// An event for this node happens behind this history: it is turned away, or comes to the node. An
 /// `Err` is the node's want of memory for a crash, and changes nothing.
-pub fn happen_at<N: ClusterNode>(
+pub fn happen_at<N: ClusterNode, R: Threads + Sync>(
+    rt: &R,
     alloc: Global,
     sent: &mut SentFrames,
     history: &[Recorded],
@@ -265,6 +269,6 @@ pub fn happen_at<N: ClusterNode>(
 {
     match refusal_at(node, sent, history, event) {
         Some(why) => Ok(EventOutcome::TurnedAway(why)),
-        None => come_to(alloc, sent, node, event),
+        None => come_to(rt, alloc, sent, node, event),
     }
 }

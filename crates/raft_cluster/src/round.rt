@@ -184,7 +184,8 @@ fn event_at<'a>(
 
 // The node at this place is asked for its event, if there is one that may come before its turn. Where
 // it lacks memory for a crash, that waits for its turn.
-fn work<N: ClusterNode>(
+fn work<N: ClusterNode, R: Threads + Sync>(
+    rt: &R,
     slot: &mut Slot<N>,
     place: usize,
     ids: &[u64],
@@ -201,7 +202,7 @@ fn work<N: ClusterNode>(
     if !is_free(&slot.node, sent, history, events, event) {
         return;
     }
-    if let Ok(answer) = ask_node(&mut slot.node, sent, event) {
+    if let Ok(answer) = ask_node(rt, &mut slot.node, sent, event) {
         slot.answer = Some(answer);
     }
 }
@@ -239,7 +240,7 @@ where
         rt,
         slots,
         threads,
-        &|place, slot: &mut Slot<N>| { work(slot, place, ids, sent, history, events) },
+        &|place, slot: &mut Slot<N>| { work(rt, slot, place, ids, sent, history, events) },
     );
 }
 
@@ -266,7 +267,8 @@ where
 
 /// The turns of the events come, one after another, and says how many of them happened: all but crashes
 /// for which a node lacks memory.
-pub fn settle_all<N: ClusterNode>(
+pub fn settle_all<N: ClusterNode, R: Threads + Sync>(
+    rt: &R,
     alloc: Global,
     slots: &mut Vec<Slot<N>>,
     sent: &mut SentFrames,
@@ -283,7 +285,7 @@ pub fn settle_all<N: ClusterNode>(
 {
     let mut count = 0;
     for event in events {
-        if let Ok(outcome) = take_turn(alloc, slots, sent, history.as_slice(), &event) {
+        if let Ok(outcome) = take_turn(rt, alloc, slots, sent, history.as_slice(), &event) {
             history.push_reserved(Recorded { event, outcome });
             count += 1;
         }

@@ -15,6 +15,7 @@ use crate::happening::{happen_at, settle};
 use raft_cluster_events::{ClusterEvent, ClusterNode, EventOutcome, Recorded};
 use raft_sent_frames::SentFrames;
 use std::alloc::{AllocError, Global};
+use std::thread::Threads;
 
 /// A node. In a round it has what it answered to its event, until the turn of that comes.
 #[derive(Drop)]
@@ -34,8 +35,9 @@ impl<N: ClusterNode> Slot<N> {
 
     // The turn of the node's event comes, behind this history: what it answered is settled, or the event
     // happens now. An `Err` is the node's want of memory for a crash, and changes nothing.
-    fn turn(
+    fn turn<R: Threads + Sync>(
         &mut self,
+        rt: &R,
         alloc: Global,
         sent: &mut SentFrames,
         history: &[Recorded],
@@ -51,7 +53,7 @@ impl<N: ClusterNode> Slot<N> {
     {
         match self.answer.take() {
             Some(answer) => Ok(settle(alloc, sent, &mut self.node, answer)),
-            None => happen_at(alloc, sent, history, &mut self.node, event),
+            None => happen_at(rt, alloc, sent, history, &mut self.node, event),
         }
     }
 }
@@ -85,7 +87,8 @@ fn place_of<N: ClusterNode>(slots: &[Slot<N>], id: Option<u64>) -> Option<usize>
 /// The turn of an event comes, behind this history: it is turned away, or happens at its node, which
 /// may have answered it before. An `Err` is the want of memory of a node that is to crash, and changes
 /// nothing.
-pub fn take_turn<N: ClusterNode>(
+pub fn take_turn<N: ClusterNode, R: Threads + Sync>(
+    rt: &R,
     alloc: Global,
     slots: &mut Vec<Slot<N>>,
     sent: &mut SentFrames,
@@ -101,7 +104,7 @@ pub fn take_turn<N: ClusterNode>(
     ensures frames { OnErr result (sent.new ≡ sent.old) }
 {
     match place_of(slots.as_slice(), node_of(sent, event)) {
-        Some(place) => slots[place].turn(alloc, sent, history, event),
+        Some(place) => slots[place].turn(rt, alloc, sent, history, event),
         None => Ok(EventOutcome::TurnedAway(refusal_nowhere(sent, history, event))),
     }
 }

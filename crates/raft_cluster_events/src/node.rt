@@ -1,6 +1,7 @@
 //! What a cluster needs of a node.
 ghost use Rattle.std.specs.Prelude.{◌≡◌, ℕ, true, false, IfErr, IfOk, OnOk, OnErr, option_map};
 ghost use Rattle.std.specs.Option.{option_copied};
+ghost use Rattle.std.specs.Thread.{IsSync};
 ghost use Rattle.raft_cluster_events.specs.Node.{NodeActs};
 ghost use Rattle.raft_cluster_events.specs.States.{NodeStates};
 
@@ -10,6 +11,7 @@ use raft_list_facts::Leading;
 use raft_machines::{StateMachine, Told};
 use raft_sent_frames::{NodeFrame, Sequence};
 use std::alloc::{AllocError, Global};
+use std::thread::Threads;
 
 /// What an event did in a group of a node (own): all that it stored is on the disk.
 #[derive(Debug, Drop)]
@@ -24,7 +26,9 @@ pub struct NodeOutcome {
     pub unknown: Sequence<u64>,
 }
 
-/// A node and its files, up or down (own). One that is down refuses each call as failed (11).
+/// A node and its files, up or down (own). One that is down refuses each call as failed (11). A handle
+/// of threads is shared with them: the clause says again what the bound `Sync` does, since an
+/// implementor's proof has no bounds of a method.
 pub trait ClusterNode: Drop {
     /// What its groups' commands run on.
     type Machine: StateMachine;
@@ -39,9 +43,15 @@ pub trait ClusterNode: Drop {
     ghost states: { NodeStates Self };
 
     /// A node of this id that has nothing: it is up, unless its files can't be opened.
-    fn begin(alloc: Global, id: u64, settings: &Self::Settings) -> Result<Self, AllocError>
+    fn begin<R: Threads + Sync>(
+        rt: &R,
+        alloc: Global,
+        id: u64,
+        settings: &Self::Settings,
+    ) -> Result<Self, AllocError>
     where
         Self: Sized,
+        requires shared { IsSync R.row }
         ensures begins { IfOk result (λ node. acts.begins id node) }
         ensures id { IfOk result (λ node. acts.id node ≡ id) };
 
@@ -107,8 +117,14 @@ pub trait ClusterNode: Drop {
         ensures id { acts.id self.new ≡ acts.id self.old }
         ensures down { OnOk result (acts.is_up self.new ≡ false) };
 
-    /// The node is opened with its files, by so many workers. A stop leaves it down.
-    fn reopen(&mut self, workers: u64) -> Result<Sequence<NodeOutcome>, Stop>
+    /// The node is opened with its files, by so many workers, on threads that the handle makes. A stop
+    /// leaves it down.
+    fn reopen<R: Threads + Sync>(
+        &mut self,
+        rt: &R,
+        workers: u64,
+    ) -> Result<Sequence<NodeOutcome>, Stop>
+        requires shared { IsSync R.row }
         ensures does { acts.reopens self.old workers result self.new }
         ensures id { acts.id self.new ≡ acts.id self.old }
         ensures up { OnOk result (acts.is_up self.new ≡ true) }

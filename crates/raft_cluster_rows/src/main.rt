@@ -12,8 +12,8 @@ use toy_node::ToyNode;
 
 fn main(rt: HostRuntime) -> ExitCode {
     let alloc = rt.alloc();
-    let end = run_script::<ToyNode, _, _>(alloc, 0, &mut rt.stdin(), &mut rt.stdout());
-    match run_events(alloc) {
+    let end = run_script::<ToyNode, _, _, _>(&rt, alloc, 0, &mut rt.stdin(), &mut rt.stdout());
+    match run_events(&rt, alloc) {
         Ok(text) => match println!(rt; "{text}") {
             Ok(()) => ExitCode::from(end.status()),
             Err(_) => ExitCode::from(3),

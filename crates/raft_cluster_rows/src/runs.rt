@@ -4,6 +4,7 @@ use raft_cluster::{Cluster, ClusterEvent, ClusterRefusal, CrashChoice, EventOutc
 use raft_cluster_events::GroupCommand;
 use raft_group_step::GroupCall;
 use std::alloc::{AllocError, Global};
+use std::thread::Threads;
 
 fn ask(node: u64, call: GroupCommand) -> ClusterEvent {
     ClusterEvent::Ask {
@@ -95,8 +96,12 @@ fn cleanings(alloc: Global) -> Result<Vec<ClusterEvent>, AllocError> {
 }
 
 // A run behind a function without clauses: a proof that carries them takes long.
-fn run(cluster: &mut Cluster<ToyNode>, events: Vec<ClusterEvent>) -> usize {
-    cluster.run(events)
+fn run<R: Threads + Sync>(
+    rt: &R,
+    cluster: &mut Cluster<ToyNode>,
+    events: Vec<ClusterEvent>,
+) -> usize {
+    cluster.run(rt, events)
 }
 
 fn word(recorded: &Recorded) -> &'static str {
@@ -112,10 +117,14 @@ fn word(recorded: &Recorded) -> &'static str {
 
 // How many of the events a cluster of three nodes ran, what came of each, and how many frames were
 // sent.
-fn told(alloc: Global, events: Vec<ClusterEvent>) -> Result<String, AllocError> {
-    let mut cluster: Cluster<ToyNode> = Cluster::new(alloc, &[1, 2, 3], &0)?;
+fn told<R: Threads + Sync>(
+    rt: &R,
+    alloc: Global,
+    events: Vec<ClusterEvent>,
+) -> Result<String, AllocError> {
+    let mut cluster: Cluster<ToyNode> = Cluster::new(rt, alloc, &[1, 2, 3], &0)?;
     let asked = events.len();
-    let count = run(&mut cluster, events);
+    let count = run(rt, &mut cluster, events);
     let mut text = format!(in alloc; "ran {count} of {asked}:")?;
     for recorded in cluster.history() {
         text.push_str(word(recorded))?;
@@ -125,13 +134,13 @@ fn told(alloc: Global, events: Vec<ClusterEvent>) -> Result<String, AllocError> 
 }
 
 /// What four lists of events do, a line each.
-pub fn run_events(alloc: Global) -> Result<String, AllocError> {
-    let mut text = told(alloc, events(alloc)?)?;
+pub fn run_events<R: Threads + Sync>(rt: &R, alloc: Global) -> Result<String, AllocError> {
+    let mut text = told(rt, alloc, events(alloc)?)?;
     text.push_str("\n")?;
-    text.push_str(told(alloc, crashes(alloc)?)?.as_str())?;
+    text.push_str(told(rt, alloc, crashes(alloc)?)?.as_str())?;
     text.push_str("\n")?;
-    text.push_str(told(alloc, fuses(alloc)?)?.as_str())?;
+    text.push_str(told(rt, alloc, fuses(alloc)?)?.as_str())?;
     text.push_str("\n")?;
-    text.push_str(told(alloc, cleanings(alloc)?)?.as_str())?;
+    text.push_str(told(rt, alloc, cleanings(alloc)?)?.as_str())?;
     Ok(text)
 }

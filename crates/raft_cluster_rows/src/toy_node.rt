@@ -9,6 +9,7 @@ use raft_group_step::GroupCall;
 use raft_machines::{AddingMachine, UnknownTokens, Untold};
 use raft_state::Bytes;
 use std::alloc::{AllocError, Global};
+use std::thread::Threads;
 
 /// The length of its frames, in bytes.
 const FRAME: usize = 3;
@@ -121,7 +122,12 @@ impl ClusterNode for ToyNode {
       spells = λ group message bytes. Unit {0};
     } };
 
-    fn begin(alloc: Global, id: u64, _settings: &u64) -> Result<Self, AllocError> {
+    fn begin<R: Threads + Sync>(
+        _rt: &R,
+        alloc: Global,
+        id: u64,
+        _settings: &u64,
+    ) -> Result<Self, AllocError> {
         Ok(ToyNode {
             alloc,
             id,
@@ -217,7 +223,11 @@ impl ClusterNode for ToyNode {
         }
     }
 
-    fn reopen(&mut self, _workers: u64) -> Result<Sequence<NodeOutcome>, Stop> {
+    fn reopen<R: Threads + Sync>(
+        &mut self,
+        _rt: &R,
+        _workers: u64,
+    ) -> Result<Sequence<NodeOutcome>, Stop> {
         self.is_up = true;
         Ok(Sequence::new(self.alloc))
     }

@@ -11,6 +11,7 @@ use raft_cluster_events::{ClusterEvent, ClusterNode, CrashChoice, EventOutcome, 
 use raft_machines::AddingMachine;
 use raft_script_answers::stopped_text;
 use std::alloc::{AllocError, Global};
+use std::thread::Threads;
 
 // Whether the event stopped at a call that its node's files refused.
 fn is_cut(outcome: &EventOutcome) -> bool
@@ -33,7 +34,8 @@ fn fused_text(alloc: Global, outcome: &EventOutcome) -> Result<String, AllocErro
 }
 
 // The event happens: the text of its outcome, and whether the fuse cut it off.
-fn happen_in<N: ClusterNode<Machine = AddingMachine>>(
+fn happen_in<N: ClusterNode<Machine = AddingMachine>, R: Threads + Sync>(
+    rt: &R,
     alloc: Global,
     cluster: &mut Cluster<N>,
     event: ClusterEvent,
@@ -41,26 +43,32 @@ fn happen_in<N: ClusterNode<Machine = AddingMachine>>(
     ensures { IfOk result (λ told. CutSo N.acts cluster.old event (string_bytes told.0) told.1 cluster.new) }
 {
     let at = cluster.history().len();
-    cluster.step(event)?;
+    cluster.step(rt, event)?;
     let outcome = &cluster.history()[at].outcome;
     let text = fused_text(alloc, outcome)?;
     Ok((text, is_cut(outcome)))
 }
 
 // Where the event was cut off the node's machine stops, and leaves what was synced.
-fn end_in<N: ClusterNode>(cluster: &mut Cluster<N>, node: u64, cut: bool) -> Result<(), AllocError>
+fn end_in<N: ClusterNode, R: Threads + Sync>(
+    rt: &R,
+    cluster: &mut Cluster<N>,
+    node: u64,
+    cut: bool,
+) -> Result<(), AllocError>
     ensures { OnOk result (EndsCut N.acts cut node cluster.old cluster.new) }
 {
     if cut {
         let choice = CrashChoice::Least;
-        cluster.step(ClusterEvent::Crash { node, choice })?;
+        cluster.step(rt, ClusterEvent::Crash { node, choice })?;
     }
     Ok(())
 }
 
 /// The node's files refuse each changing call from this one on until the event is over, and it is
 /// answered by the text of its outcome. Where it was cut off the node's machine stops.
-pub fn happen_fused<N: ClusterNode<Machine = AddingMachine>>(
+pub fn happen_fused<N: ClusterNode<Machine = AddingMachine>, R: Threads + Sync>(
+    rt: &R,
     alloc: Global,
     cluster: &mut Cluster<N>,
     node: u64,
@@ -70,16 +78,22 @@ pub fn happen_fused<N: ClusterNode<Machine = AddingMachine>>(
     ensures { IfOk result (λ text. StepsFused N.acts node first cluster.old event (string_bytes text) cluster.new) }
 {
     let first_refused = Some(first);
-    cluster.step(ClusterEvent::Fuse {
-        node,
-        first_refused,
-    })?;
-    let (text, cut) = happen_in(alloc, cluster, event)?;
+    cluster.step(
+        rt,
+        ClusterEvent::Fuse {
+            node,
+            first_refused,
+        },
+    )?;
+    let (text, cut) = happen_in(rt, alloc, cluster, event)?;
     let first_refused = None;
-    cluster.step(ClusterEvent::Fuse {
-        node,
-        first_refused,
-    })?;
-    end_in(cluster, node, cut)?;
+    cluster.step(
+        rt,
+        ClusterEvent::Fuse {
+            node,
+            first_refused,
+        },
+    )?;
+    end_in(rt, cluster, node, cut)?;
     Ok(text)
 }

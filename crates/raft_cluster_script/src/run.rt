@@ -8,11 +8,13 @@ use raft_machines::AddingMachine;
 use raft_script_session::{ScriptEnd, run_lines};
 use std::alloc::Global;
 use std::io::{Read, Write};
+use std::thread::Threads;
 
 /// Runs the script that the reader gives on a cluster of such nodes, and writes its answers: each
 /// line's before the next read waits (own). Lines, answers and statuses are described in
 /// docs/SCRIPT.md.
-pub fn run_script<N: ClusterNode<Machine = AddingMachine>, R: Read, W: Write>(
+pub fn run_script<N: ClusterNode<Machine = AddingMachine>, R: Read, W: Write, T: Threads + Sync>(
+    rt: &T,
     alloc: Global,
     settings: N::Settings,
     reader: &mut R,
@@ -21,5 +23,5 @@ pub fn run_script<N: ClusterNode<Machine = AddingMachine>, R: Read, W: Write>(
     ensures { IfSome (R.remaining reader.old) (λ input. RunsScript N.acts input (W.contents writer.old) (W.contents writer.new) result) }
 {
     let mut script: Script<N> = Script::new(alloc, settings);
-    run_lines(alloc, &mut script, reader, writer)
+    run_lines(rt, alloc, &mut script, reader, writer)
 }

@@ -17,6 +17,7 @@ use raft_script_lines::{ReadLineError, ScriptEvent, ScriptLine, read_line};
 use raft_script_session::LineRunner;
 use std::alloc::{AllocError, Global};
 use std::marker::Model;
+use std::thread::Threads;
 
 /// The cluster of a script, and what was counted (own).
 #[derive(Drop)]
@@ -48,7 +49,8 @@ fn ids_to(alloc: Global, count: u64) -> Result<Vec<u64>, AllocError>
 }
 
 // The event happens, and is answered by the text of its outcome.
-fn happen_in<N: ClusterNode<Machine = AddingMachine>>(
+fn happen_in<N: ClusterNode<Machine = AddingMachine>, R: Threads + Sync>(
+    rt: &R,
     alloc: Global,
     cluster: &mut Cluster<N>,
     event: ClusterEvent,
@@ -56,12 +58,13 @@ fn happen_in<N: ClusterNode<Machine = AddingMachine>>(
     ensures { IfOk result (λ text. StepsSo N.acts cluster.old event (string_bytes text) cluster.new) }
 {
     let at = cluster.history().len();
-    cluster.step(event)?;
+    cluster.step(rt, event)?;
     outcome_text(alloc, &cluster.history()[at].outcome)
 }
 
 // The same behind a fuse of its node's files, if it is for a node.
-fn fused_in<N: ClusterNode<Machine = AddingMachine>>(
+fn fused_in<N: ClusterNode<Machine = AddingMachine>, R: Threads + Sync>(
+    rt: &R,
     alloc: Global,
     cluster: &mut Cluster<N>,
     first: u64,
@@ -70,8 +73,8 @@ fn fused_in<N: ClusterNode<Machine = AddingMachine>>(
     ensures { IfOk result (λ text. StepsFusedAt N.acts (node_of (frames_of cluster.old.sent) event) first cluster.old event (string_bytes text) cluster.new) }
 {
     match cluster.node_of(&event) {
-        Some(node) => happen_fused(alloc, cluster, node, first, event),
-        None => happen_in(alloc, cluster, event),
+        Some(node) => happen_fused(rt, alloc, cluster, node, first, event),
+        None => happen_in(rt, alloc, cluster, event),
     }
 }
 
@@ -90,7 +93,7 @@ impl<N: ClusterNode<Machine = AddingMachine>> Script<N> {
     }
 
     // A cluster of so many nodes begins, unless there is one.
-    fn begin(&mut self, count: u64) -> Result<Option<String>, AllocError>
+    fn begin<R: Threads + Sync>(&mut self, rt: &R, count: u64) -> Result<Option<String>, AllocError>
         ensures { IfOk result (λ text. BeginsOnce N.acts self.old self.old.cluster count (option_map string_bytes text) self.new) }
     {
         if self.cluster.is_some() {
@@ -98,7 +101,7 @@ impl<N: ClusterNode<Machine = AddingMachine>> Script<N> {
         }
         let ids = ids_to(self.alloc, count)?;
         let text = String::from_str(self.alloc, "ok\n")?;
-        self.cluster = Some(Cluster::new(self.alloc, ids.as_slice(), &self.settings)?);
+        self.cluster = Some(Cluster::new(rt, self.alloc, ids.as_slice(), &self.settings)?);
         Ok(Some(text))
     }
 
@@ -125,8 +128,9 @@ impl<N: ClusterNode<Machine = AddingMachine>> Script<N> {
     }
 
     // An event of the cluster, if there is one and the line names one. So many tokens were taken then.
-    fn happen(
+    fn happen<R: Threads + Sync>(
         &mut self,
+        rt: &R,
         event: Option<ClusterEvent>,
         tokens: u64,
     ) -> Result<Option<String>, AllocError>
@@ -134,7 +138,7 @@ impl<N: ClusterNode<Machine = AddingMachine>> Script<N> {
     {
         match (&mut self.cluster, event) {
             (Some(cluster), Some(event)) => {
-                let text = happen_in(self.alloc, cluster, event)?;
+                let text = happen_in(rt, self.alloc, cluster, event)?;
                 self.tokens = tokens;
                 Ok(Some(text))
             }
@@ -143,8 +147,9 @@ impl<N: ClusterNode<Machine = AddingMachine>> Script<N> {
     }
 
     // The same behind a fuse of its node's files, if it is for a node.
-    fn happen_fused(
+    fn happen_fused<R: Threads + Sync>(
         &mut self,
+        rt: &R,
         event: Option<ClusterEvent>,
         first: u64,
         tokens: u64,
@@ -153,7 +158,7 @@ impl<N: ClusterNode<Machine = AddingMachine>> Script<N> {
     {
         match (&mut self.cluster, event) {
             (Some(cluster), Some(event)) => {
-                let text = fused_in(self.alloc, cluster, first, event)?;
+                let text = fused_in(rt, self.alloc, cluster, first, event)?;
                 self.tokens = tokens;
                 Ok(Some(text))
             }
@@ -162,38 +167,51 @@ impl<N: ClusterNode<Machine = AddingMachine>> Script<N> {
     }
 
     // An event of a line, with a fuse.
-    fn take_fused(&mut self, first: u64, event: ScriptEvent) -> Result<Option<String>, AllocError>
+    fn take_fused<R: Threads + Sync>(
+        &mut self,
+        rt: &R,
+        first: u64,
+        event: ScriptEvent,
+    ) -> Result<Option<String>, AllocError>
         ensures { IfOk result (λ text. TakesFused N.acts self.old self.old.cluster
             (event_of self.old.tick (tokens_after self.old.tokens event) event) first
             (tokens_after self.old.tokens event) (option_map string_bytes text) self.new) }
     {
         let tokens = tokens_after(self.tokens, &event);
         let event = event_of(self.alloc, self.tick, tokens, event)?;
-        self.happen_fused(event, first, tokens)
+        self.happen_fused(rt, event, first, tokens)
     }
 
     // An event of a line.
-    fn take_event(&mut self, event: ScriptEvent) -> Result<Option<String>, AllocError>
+    fn take_event<R: Threads + Sync>(
+        &mut self,
+        rt: &R,
+        event: ScriptEvent,
+    ) -> Result<Option<String>, AllocError>
         ensures { IfOk result (λ text. Takes N.acts self.old self.old.cluster
             (event_of self.old.tick (tokens_after self.old.tokens event) event)
             (tokens_after self.old.tokens event) (option_map string_bytes text) self.new) }
     {
         let tokens = tokens_after(self.tokens, &event);
         let event = event_of(self.alloc, self.tick, tokens, event)?;
-        self.happen(event, tokens)
+        self.happen(rt, event, tokens)
     }
 
     // Runs a line.
-    fn take(&mut self, line: ScriptLine) -> Result<Option<String>, AllocError>
+    fn take<R: Threads + Sync>(
+        &mut self,
+        rt: &R,
+        line: ScriptLine,
+    ) -> Result<Option<String>, AllocError>
         ensures { IfOk result (λ text. TakesLine N.acts self.old line (option_map string_bytes text) self.new) }
     {
         match line {
             ScriptLine::Skipped => Ok(Some(String::new(self.alloc))),
-            ScriptLine::Nodes { count } => self.begin(count),
+            ScriptLine::Nodes { count } => self.begin(rt, count),
             ScriptLine::Now { tick } => self.set_now(tick),
             ScriptLine::Total { node, group } => self.total(node, group),
-            ScriptLine::Happens(event) => self.take_event(event),
-            ScriptLine::Fuse { calls, event } => self.take_fused(calls, event),
+            ScriptLine::Happens(event) => self.take_event(rt, event),
+            ScriptLine::Fuse { calls, event } => self.take_fused(rt, calls, event),
         }
     }
 }
@@ -203,9 +221,13 @@ impl<N: ClusterNode<Machine = AddingMachine>> LineRunner for Script<N> {
 
     ghost runs = { RunsLine N.acts };
 
-    fn run_line(&mut self, line: &[u8]) -> Result<Option<String>, AllocError> {
+    fn run_line<R: Threads + Sync>(
+        &mut self,
+        rt: &R,
+        line: &[u8],
+    ) -> Result<Option<String>, AllocError> {
         match read_line(self.alloc, line) {
-            Ok(line) => self.take(line),
+            Ok(line) => self.take(rt, line),
             Err(ReadLineError::NoEvent(_)) => Ok(None),
             Err(ReadLineError::Memory) => Err(AllocError),
         }

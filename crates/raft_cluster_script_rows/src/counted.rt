@@ -42,10 +42,10 @@ fn count(
 }
 
 /// Prints each answer once, with how often it came.
-pub fn print_counted(rt: &HostRuntime, answers: &str) -> io::Result<()> {
-    let mut counts = BTreeMap::new(rt.alloc());
+pub fn print_counted(rt: &impl Print, alloc: Global, answers: &str) -> io::Result<()> {
+    let mut counts = BTreeMap::new(alloc);
     for answer in answers.lines() {
-        count(rt.alloc(), &mut counts, answer)?;
+        count(alloc, &mut counts, answer)?;
     }
     for (answer, times) in &counts {
         println!(rt; "{times} times {answer}")?;

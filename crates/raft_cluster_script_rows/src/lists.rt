@@ -10,6 +10,7 @@ use raft_script_lines::{ScriptEvent, ScriptLine, read_line};
 use raft_state::{BasicNode, Bytes, Entry, EntryPayload};
 use std::alloc::{AllocError, Global};
 use std::io;
+use std::thread::Threads;
 
 // The first group whose list is shown, and the one behind the last.
 const FIRST: u64 = 7;
@@ -27,7 +28,8 @@ struct Listed {
 }
 
 // Nodes from 1 to that number, which have nothing.
-fn cluster(
+fn cluster<R: Threads + Sync>(
+    rt: &R,
     alloc: Global,
     count: u64,
 ) -> Result<ListedCluster<FileNode<AddingMachine>>, AllocError> {
@@ -36,7 +38,7 @@ fn cluster(
     for id in 0..count {
         ids.push(id + 1)?;
     }
-    ListedCluster::new(alloc, ids.as_slice(), &settings)
+    ListedCluster::new(rt, alloc, ids.as_slice(), &settings)
 }
 
 fn kind(entry: &Entry<u64, BasicNode, Bytes>) -> &'static str {
@@ -55,10 +57,10 @@ fn has_token(event: &ScriptEvent) -> bool {
 }
 
 impl Listed {
-    fn new(alloc: Global) -> Result<Listed, AllocError> {
+    fn new<R: Threads + Sync>(rt: &R, alloc: Global) -> Result<Listed, AllocError> {
         Ok(Listed {
             alloc,
-            cluster: cluster(alloc, 0)?,
+            cluster: cluster(rt, alloc, 0)?,
             counts: [0; 3],
             tokens: 0,
             tick: 0,
@@ -84,41 +86,59 @@ impl Listed {
         )
     }
 
-    fn fuse(&mut self, node: u64, first_refused: Option<u64>) -> Result<(), AllocError> {
-        self.cluster.step(ClusterEvent::Fuse {
-            node,
-            first_refused,
-        })
+    fn fuse<R: Threads + Sync>(
+        &mut self,
+        rt: &R,
+        node: u64,
+        first_refused: Option<u64>,
+    ) -> Result<(), AllocError> {
+        self.cluster.step(
+            rt,
+            ClusterEvent::Fuse {
+                node,
+                first_refused,
+            },
+        )
     }
 
     // The event, in which the node's files refuse the call of this number and those behind it. A node
     // that stops at one crashes.
-    fn happen_fused(&mut self, first: u64, event: ClusterEvent) -> Result<String, AllocError> {
+    fn happen_fused<R: Threads + Sync>(
+        &mut self,
+        rt: &R,
+        first: u64,
+        event: ClusterEvent,
+    ) -> Result<String, AllocError> {
         let Some(node) = self.cluster.node_of(&event) else {
             return String::from_str(self.alloc, "no node");
         };
-        self.fuse(node, Some(first))?;
-        self.cluster.step(event)?;
+        self.fuse(rt, node, Some(first))?;
+        self.cluster.step(rt, event)?;
         let has_stopped = self.has_stopped();
         let text = self.outcome()?;
-        self.fuse(node, None)?;
+        self.fuse(rt, node, None)?;
         if !has_stopped {
             return Ok(text);
         }
         let choice = CrashChoice::Least;
-        self.cluster.step(ClusterEvent::Crash { node, choice })?;
+        self.cluster.step(rt, ClusterEvent::Crash { node, choice })?;
         String::from_str(self.alloc, "stopped")
     }
 
     // The event of a script, behind a fuse where there is a number.
-    fn happen(&mut self, first: Option<u64>, event: ScriptEvent) -> Result<String, AllocError> {
+    fn happen<R: Threads + Sync>(
+        &mut self,
+        rt: &R,
+        first: Option<u64>,
+        event: ScriptEvent,
+    ) -> Result<String, AllocError> {
         if has_token(&event) {
             self.tokens = self.tokens.saturating_add(1);
         }
         match (event_of(self.alloc, self.tick, self.tokens, event)?, first) {
-            (Some(event), Some(first)) => self.happen_fused(first, event),
+            (Some(event), Some(first)) => self.happen_fused(rt, first, event),
             (Some(event), None) => {
-                self.cluster.step(event)?;
+                self.cluster.step(rt, event)?;
                 self.outcome()
             }
             (None, _) => String::from_str(self.alloc, "no event"),
@@ -146,18 +166,18 @@ impl Listed {
     }
 
     // What a line is answered by.
-    fn answer(&mut self, line: &str) -> Result<String, AllocError> {
+    fn answer<R: Threads + Sync>(&mut self, rt: &R, line: &str) -> Result<String, AllocError> {
         let mut text = match read_line(self.alloc, line.as_bytes()) {
             Ok(ScriptLine::Nodes { count }) => {
-                self.cluster = cluster(self.alloc, count)?;
+                self.cluster = cluster(rt, self.alloc, count)?;
                 String::from_str(self.alloc, "ok")?
             }
             Ok(ScriptLine::Now { tick }) => {
                 self.tick = tick;
                 String::from_str(self.alloc, "ok")?
             }
-            Ok(ScriptLine::Happens(event)) => self.happen(None, event)?,
-            Ok(ScriptLine::Fuse { calls, event }) => self.happen(Some(calls), event)?,
+            Ok(ScriptLine::Happens(event)) => self.happen(rt, None, event)?,
+            Ok(ScriptLine::Fuse { calls, event }) => self.happen(rt, Some(calls), event)?,
             _ => String::from_str(self.alloc, "no event")?,
         };
         let mut answer = format!(in self.alloc; "{}", text.as_str().trim_end())?;
@@ -170,10 +190,14 @@ impl Listed {
 }
 
 /// Prints what each line of the script is answered.
-pub fn print_listed(rt: &HostRuntime, script: &str) -> io::Result<()> {
-    let mut listed = Listed::new(rt.alloc())?;
+pub fn print_listed<R: Print + Threads + Sync>(
+    rt: &R,
+    alloc: Global,
+    script: &str,
+) -> io::Result<()> {
+    let mut listed = Listed::new(rt, alloc)?;
     for line in script.lines() {
-        println!(rt; "{}", listed.answer(line)?)?;
+        println!(rt; "{}", listed.answer(rt, line)?)?;
     }
     Ok(())
 }

@@ -7,6 +7,7 @@ use raft_machines::AddingMachine;
 use raft_nodes_on_files::{FileNode, log_settings, run_on_files};
 use raft_state::{Bytes, Membership};
 use std::alloc::{AllocError, Global};
+use std::thread::Threads;
 
 fn ask(call: GroupCommand) -> ClusterEvent {
     ClusterEvent::Ask {
@@ -34,8 +35,12 @@ fn events(alloc: Global) -> Result<Vec<ClusterEvent>, AllocError> {
 }
 
 // A run behind a function without clauses: a proof that carries them takes long.
-fn run(cluster: &mut ListedCluster<FileNode<AddingMachine>>, events: Vec<ClusterEvent>) -> usize {
-    run_on_files(cluster, events)
+fn run<R: Threads + Sync>(
+    rt: &R,
+    cluster: &mut ListedCluster<FileNode<AddingMachine>>,
+    events: Vec<ClusterEvent>,
+) -> usize {
+    run_on_files(rt, cluster, events)
 }
 
 fn word(recorded: &Recorded) -> &'static str {
@@ -65,12 +70,12 @@ fn told_text(
 }
 
 /// Runs the events by `run_on_files`, and says how many happened, what came of each, and what they told.
-pub fn run_rows(alloc: Global) -> Result<String, AllocError> {
+pub fn run_rows<R: Threads + Sync>(rt: &R, alloc: Global) -> Result<String, AllocError> {
     let settings = log_settings(alloc, "raft", 64, 256)?;
-    let mut cluster = ListedCluster::<FileNode<AddingMachine>>::new(alloc, &[1], &settings)?;
+    let mut cluster = ListedCluster::<FileNode<AddingMachine>>::new(rt, alloc, &[1], &settings)?;
     let events = events(alloc)?;
     let asked = events.len();
-    let count = run(&mut cluster, events);
+    let count = run(rt, &mut cluster, events);
     let mut text = format!(in alloc; "ran {count} of {asked}:")?;
     for recorded in cluster.history() {
         text.push_str(word(recorded))?;

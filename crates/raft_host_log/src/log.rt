@@ -34,6 +34,7 @@ use raft_log_host::HostFileSystem;
 use raft_log_records::LogBatch;
 use std::alloc::{AllocError, Global};
 use std::marker::Model;
+use std::thread::Threads;
 
 /// The files of a directory on a disk, with the settings that a log is opened by (own).
 #[derive(Drop)]
@@ -115,6 +116,51 @@ impl HostLog {
             });
         };
         match Engine::open_alone(files, alloc, config) {
+            Ok(engine) => Ok(HostLog {
+                engine,
+                settings,
+                has_failed: false,
+            }),
+            Err(NotOpened { fault, files }) => Err(NotOpened {
+                fault,
+                files: HostFiles { settings, files },
+            }),
+        }
+    }
+
+    /// Opens the log as `open` does, by as many workers as `recovery_threads` of the settings says
+    /// (own): as `Engine::open_with_file_system`.
+    pub fn open_by_workers<R: Threads + Sync>(
+        rt: &R,
+        alloc: Global,
+        files: HostFiles,
+    ) -> Result<HostLog, NotOpened<HostFiles>>
+        ensures sound { IfOk result (λ l. l.has_failed ≡ false) }
+        ensures answers { IfOk result (λ l. IsFoundBy files.settings (host_disk files.files) (answers_on host_disk l.engine)) }
+        ensures leaves { IfOk result (λ l. LeavesOnly (leaves_of_log host_disk l) (answers_on host_disk l.engine)) }
+        ensures opens_in_tail { IfOk result (λ l. OpensInTail (main_directory l.settings) (host_disk l.engine.files) l.engine.pipes) }
+        ensures settings { IfOk result (λ l. l.settings ≡ files.settings) }
+        ensures set { IfOk result (λ l. AreSetAs (settings_of files.settings) l.engine.pipes) }
+        ensures holes { IfOk result (λ l. HasHolesIn files.settings.recovery_mode (host_disk l.engine.files) l.engine.pipes) }
+        ensures refused { IfErr result (λ refused. refused.files.settings ≡ files.settings) }
+        ensures err { IfErr result (λ refused. IsLeftByOpening files.settings.recovery_mode (main_directory files.settings) (host_disk files.files) (host_disk refused.files.files)) }
+        ensures reads { IfErr result (λ refused. (content : Content (List ℕ)) → IsFoundBy files.settings (host_disk refused.files.files) content
+            → IsFoundBy files.settings (host_disk files.files) content) }
+        ensures corrupt { IfErr result (λ refused. (f : CorruptionFault) → refused.fault ≡ engine_fault.Log (Corruption f)
+            → (queue : LogQueue) × CantBeOpened files.settings.recovery_mode (main_directory files.settings) queue (host_disk files.files)) }
+        ensures later { MatchResult result (λ l. RefusesNoMore (is_bounded_in files.files.memory) (is_bounded_in l.engine.files.memory) (host_meter files.files) (host_meter l.engine.files))
+            (λ refused. RefusesNoMore (is_bounded_in files.files.memory) (is_bounded_in refused.files.files.memory) (host_meter files.files) (host_meter refused.files.files)) }
+        ensures cause { IfErr result (λ refused. IsOpeningFault (settings_fault (settings_of files.settings)) files.settings.recovery_mode (main_directory files.settings)
+            (host_disk files.files) (host_disk refused.files.files) (is_bounded_in files.files.memory) (host_meter files.files) (host_meter refused.files.files) refused.fault) }
+    {
+        let HostFiles { settings, files } = files;
+        let Ok(config) = in_one_directory(&settings) else {
+            return Err(NotOpened {
+                fault: EngineFault::Log(Error::Memory),
+                files: HostFiles { settings, files },
+            });
+        };
+        match Engine::open_with_file_system(rt, files, alloc, config) {
             Ok(engine) => Ok(HostLog {
                 engine,
                 settings,

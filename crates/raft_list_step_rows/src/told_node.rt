@@ -7,6 +7,7 @@ use raft_cluster_events::{
 };
 use raft_machines::AddingMachine;
 use std::alloc::{AllocError, Global};
+use std::thread::Threads;
 
 /// It is down, and leads one group with this.
 #[derive(Drop)]
@@ -58,7 +59,12 @@ impl ClusterNode for ToldNode {
       spells = λ group message bytes. Unit {0};
     } };
 
-    fn begin(alloc: Global, id: u64, settings: &u64) -> Result<Self, AllocError> {
+    fn begin<R: Threads + Sync>(
+        _rt: &R,
+        alloc: Global,
+        id: u64,
+        settings: &u64,
+    ) -> Result<Self, AllocError> {
         Ok(ToldNode {
             alloc,
             id,
@@ -115,7 +121,11 @@ impl ClusterNode for ToldNode {
         Err(CrashRefusal::Memory)
     }
 
-    fn reopen(&mut self, _workers: u64) -> Result<Sequence<NodeOutcome>, Stop> {
+    fn reopen<R: Threads + Sync>(
+        &mut self,
+        _rt: &R,
+        _workers: u64,
+    ) -> Result<Sequence<NodeOutcome>, Stop> {
         Err(self.stop())
     }
 

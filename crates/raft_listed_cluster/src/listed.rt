@@ -49,7 +49,8 @@ impl<N: ClusterNode> Model for ListedCluster<N> {
 impl<N: ClusterNode> ListedCluster<N> {
     /// A cluster of nodes of these ids that have nothing. A node whose files can't be opened is down.
     /// Where an id stands twice its first node gets the events. Each group's list is empty.
-    pub fn new(
+    pub fn new<R: Threads + Sync>(
+        rt: &R,
         alloc: Global,
         ids: &[u64],
         settings: &N::Settings,
@@ -59,7 +60,7 @@ impl<N: ClusterNode> ListedCluster<N> {
         ensures history { IfOk result (λ c. c.cluster.history ≡ []) }
         ensures lists { IfOk result (λ c. (group : ℕ) → lists_of c.groups group ≡ []) }
     {
-        let cluster = Cluster::new(alloc, ids, settings)?;
+        let cluster = Cluster::new(rt, alloc, ids, settings)?;
         cluster.replays();
         Ok(ListedCluster {
             alloc,
@@ -69,7 +70,7 @@ impl<N: ClusterNode> ListedCluster<N> {
     }
 
     /// One event. An `Err` is want of memory before it, and changes nothing.
-    pub fn step(&mut self, event: ClusterEvent) -> Result<(), AllocError>
+    pub fn step<R: Threads + Sync>(&mut self, rt: &R, event: ClusterEvent) -> Result<(), AllocError>
         ensures ok { OnOk result (Steps N.acts self.old.cluster event self.new.cluster) }
         ensures err { OnErr result (self.new.cluster ≡ self.old.cluster) }
         ensures err_lists { OnErr result ((group : ℕ) → lists_of self.new.groups group ≡ lists_of self.old.groups group) }
@@ -81,7 +82,7 @@ impl<N: ClusterNode> ListedCluster<N> {
         let leading = leading_at(&self.cluster, id, group);
         let brought = self.lists.prepare(&leading, &event, 1)?;
         let count = sent_in(&self.cluster, group);
-        self.cluster.step(event)?;
+        self.cluster.step(rt, event)?;
         if let Some(recorded) = self.cluster.history().last() {
             hear_step(&self.cluster, &mut self.lists, id, count, recorded, brought);
         }
@@ -91,7 +92,7 @@ impl<N: ClusterNode> ListedCluster<N> {
     /// Runs events in order, and says how many (own). Fewer than all only for want of memory before
     /// one. Where the nodes keep their law, the lists are those of which the headline speaks, and each
     /// only grows.
-    pub fn run(&mut self, events: Vec<ClusterEvent>) -> usize
+    pub fn run<R: Threads + Sync>(&mut self, rt: &R, events: Vec<ClusterEvent>) -> usize
         ensures within { result ≤ vec_len events }
         ensures runs { Runs N.acts self.old.cluster (take result events.items) self.new.cluster }
         ensures lists { KeepsLaw N.Machine.rules N.acts N.states → HasLists N.Machine.rules N.acts N.states self.new }
@@ -99,7 +100,7 @@ impl<N: ClusterNode> ListedCluster<N> {
     {
         let mut count = 0;
         for event in events {
-            let Ok(()) = self.step(event) else {
+            let Ok(()) = self.step(rt, event) else {
                 self.replays();
                 return count;
             };

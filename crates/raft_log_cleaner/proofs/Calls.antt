@@ -1,11 +1,15 @@
 -- Calls that clean, one after the other.
 use Rattle.std.proofs.Common.{◌≡◌, ◌⊎◌, inl, inr, ℕ, List, Option, Some, None, ap, ◌∙◌}
-use Rattle.std.specs.Prelude.{Result}
+use Rattle.std.specs.Prelude.{Result, Ok, Err, OnOk}
 use Rattle.std.specs.Result.{IsErrAnd}
 use Rattle.raft_log_disk.specs.Disk.{Disk}
 use Rattle.raft_log_pipes.specs.declared.pipes.DualPipes.{DualPipes}
 use Rattle.raft_log_traced.specs.declared.traced.TracedTables.{TracedTables}
+use Rattle.raft_log_covers.specs.Kept.{Traces}
+use Rattle.raft_log_covers.specs.Trace.{greater}
+use Rattle.raft_log_pipe.specs.declared.pipe.SinglePipe.{SinglePipe}
 use Rattle.raft_log_pipe.specs.Pipe.{first_of}
+use Rattle.raft_log_purge.specs.Going.{GoesToNeeded}
 use Rattle.raft_log_cleaner.specs.Cleaning.{Cleans, KeepsFromBarrier}
 use Rattle.raft_log_cleaner.proofs.Ends.{can_leave}
 use Rattle.raft_log_cleaner.proofs.Going.{done, failed, none_ok, when_err}
@@ -33,3 +37,11 @@ pub barrier_then : (barrier : Option ℕ) (p q r : DualPipes) → q.append ≡ p
 barrier_then None p q r same kept = tt
 barrier_then (Some file) p q r same (inl first) = inl (first ∙ ap first_of same)
 barrier_then (Some file) p q r same (inr low) = inr low
+
+-- ---- files that went
+
+-- behind calls that leave the first one there
+pub goes_then : {X E : Type 0} (result : Result X E) (traces : Traces) (barrier : Option ℕ) (p q r : SinglePipe) → first_of q ≡ first_of p → OnOk result (GoesToNeeded traces barrier q r)
+    → OnOk result (GoesToNeeded traces barrier p r)
+goes_then (Err e) traces barrier p q r first gone = tt
+goes_then (Ok x) traces barrier p q r first gone = (gone.0, gone.1, gone.2 ∙ ap (λ (n : ℕ). greater n gone.0) first)

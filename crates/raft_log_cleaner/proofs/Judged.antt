@@ -26,7 +26,7 @@ use Rattle.raft_log_cleaner.specs.Told.{AreTold, IsChosen, IsJudged, is_among}
 
 -- ---- groups among others
 
-apart : (x y : ℕ) → (x ≡ y → ⊥) → eq_by_cmp nat_cmp x y ≡ false
+pub apart : (x y : ℕ) → (x ≡ y → ⊥) → eq_by_cmp nat_cmp x y ≡ false
 apart x y differ = by_order (nat_cmp x y) (ranked x y (nat_cmp x y) refl)
   where
     by_order : (o : Ordering) → MatchOrdering o (x < y) (x ≡ y) (y < x) → is_eq o ≡ false
@@ -34,7 +34,7 @@ apart x y differ = by_order (nat_cmp x y) (ranked x y (nat_cmp x y) refl)
     by_order Equal h = absurd (differ h)
     by_order Greater h = refl
 
-alike : (x : ℕ) → eq_by_cmp nat_cmp x x ≡ true
+pub alike : (x : ℕ) → eq_by_cmp nat_cmp x x ≡ true
 alike x = by_order (nat_cmp x x) (ranked x x (nat_cmp x x) refl)
   where
     by_order : (o : Ordering) → MatchOrdering o (x < x) (x ≡ x) (x < x) → is_eq o ≡ true
@@ -42,7 +42,7 @@ alike x = by_order (nat_cmp x x) (ranked x x (nat_cmp x x) refl)
     by_order Equal h = refl
     by_order Greater h = absurd (omega arith)
 
-tells : (x y : ℕ) → eq_by_cmp nat_cmp x y ≡ true → x ≡ y
+pub tells : (x y : ℕ) → eq_by_cmp nat_cmp x y ≡ true → x ≡ y
 tells x y same = by_test (eqb_tells x y)
   where
     by_test : ((eqb x y ≡ true) × (x ≡ y)) ⊎ ((eqb x y ≡ false) × (x ≡ y → ⊥)) → x ≡ y
@@ -75,7 +75,7 @@ one_true true b h = inl refl
 one_true false b h = inr h
 
 -- of a list with one more behind it
-among_more : (done : List ℕ) (x group : ℕ) → is_among (done ++ x ∷ []) group ≡ (is_among done group || (eq_by_cmp nat_cmp group x || false))
+pub among_more : (done : List ℕ) (x group : ℕ) → is_among (done ++ x ∷ []) group ≡ (is_among done group || (eq_by_cmp nat_cmp group x || false))
 among_more done x group = list_any-append (eq_by_cmp nat_cmp group) done (x ∷ [])
 
 -- ---- a test that is changed for one group

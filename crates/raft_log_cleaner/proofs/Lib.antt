@@ -8,7 +8,8 @@ pub mod Chunks
 pub mod Gone
 pub mod Stood
 pub mod Calls
+pub mod Living
 mod Counting
-mod Judged
-mod Telling
+pub mod Judged
+pub mod Telling
 mod Oldest

@@ -235,7 +235,7 @@ kept_then_stands d e f p q r content kept stands = record {
   rewrite = stands_behind p.rewrite q.rewrite r.rewrite stands.pipes.rewrite d e f kept.1 stands.rewrite;
 }
 
-both_then : (d e f : Disk) (p q r : DualPipes) → KeepBoth d p e q → KeepBoth e q f r → KeepBoth d p f r
+pub both_then : (d e f : Disk) (p q r : DualPipes) → KeepBoth d p e q → KeepBoth e q f r → KeepBoth d p f r
 both_then d e f p q r one two = (pipe_then p.append q.append r.append d e f one.0 two.0, pipe_then p.rewrite q.rewrite r.rewrite d e f one.1 two.1)
 
 pub ok_both : {X E : Type 0} (result : Result X E) (d e f : Disk) (p q r : DualPipes) → KeepsPipes d p e q → OnOk result (KeepBoth e q f r) → OnOk result (KeepBoth d p f r)

@@ -5,19 +5,21 @@ use Rattle.std.specs.Option.{option_map}
 use Rattle.std.proofs.lemmas.Bool.{cases_lt, lt-leb}
 use Rattle.raft_log_records.specs.declared.item.EntryIndex.{EntryIndex}
 use Rattle.raft_log_disk.specs.Disk.{Disk}
-use Rattle.raft_log_pipe.specs.Pipe.{first_of}
+use Rattle.raft_log_pipe.specs.Pipe.{Numbered, first_of}
 use Rattle.raft_log_pipes.specs.declared.pipes.DualPipes.{DualPipes}
 use Rattle.raft_log_memtables.specs.Content.{Content, GroupContent}
 use Rattle.raft_log_memtables.specs.ContentLaws.{content_map}
 use Rattle.raft_log_memtables.specs.MemTables.{content_in}
 use Rattle.raft_log_covers.specs.Kept.{Traces}
 use Rattle.raft_log_covers.specs.Trace.{Trace}
-use Rattle.raft_log_marks.specs.Opened.{file_at}
+use Rattle.raft_log_blocks.specs.Held.{IsTabled}
+use Rattle.raft_log_marks.specs.Opened.{TellPlaces, file_at}
+use Rattle.raft_log_marks.specs.Standing.{CanBeCleaned}
 use Rattle.raft_log_traced.specs.declared.traced.TracedTables.{TracedTables}
 use Rattle.raft_log_traced.specs.Traced.{lies_in}
 use Rattle.raft_log_traces.specs.Before.{StandsFrom}
 use Rattle.raft_log_traces.specs.GroupTraces.{traces_in}
-use Rattle.raft_log_cleaner.specs.Cleaning.{CanClean}
+use Rattle.raft_log_cleaner.specs.Cleaning.{CanClean, filed, records_of}
 use Rattle.raft_log_cleaner.specs.Facts.{AreSoMany, TellEntries, count_passing, is_rewritten, lies_up_to, passes}
 use Rattle.raft_log_cleaner.proofs.Standing.{reads_as}
 
@@ -27,20 +29,31 @@ none_of : {A B : Type 0} (f : A → B) (o : Option A) → option_map f o ≡ Non
 none_of f None h = refl
 none_of f (Some x) h = absurd cc
 
-pub tells : (d : Disk) (p : DualPipes) (log : TracedTables) (content : Content (List ℕ)) → CanClean d p log content → TellEntries (traces_in log.traces) (content_in log.tables)
-tells d p log content can = record { placed = can.placed; past = past }
+-- by its batches
+pub tells_so : (p : DualPipes) (log : TracedTables) (rewrites appends : Numbered) (content : Content (List ℕ)) → IsTabled p rewrites appends log.tables
+    → CanBeCleaned (first_of p.append) (traces_in log.traces) (records_of rewrites) content (filed appends) → TellPlaces lies_in (traces_in log.traces) (content_in log.tables)
+    → TellEntries (traces_in log.traces) (content_in log.tables)
+tells_so p log rewrites appends content tabled cleanable placed = record { placed = placed; past = past }
   where
     past : (group i : ℕ) → (traces_in log.traces group).next ≤ i → (content_in log.tables group).entry i ≡ None
     past group i behind =
-        let knows = can.cleanable.cleanable.kept.knows group in
+        let knows = cleanable.cleanable.kept.knows group in
         let lens : option_map (λ (y : EntryIndex). y.entry_len) ((content_in log.tables group).entry i) ≡ option_map length ((content group).entry i) =
-        (λ j. ((can.tabled.lengths ∙ ap (content_map length) (reads_as (first_of p.append) (traces_in log.traces) can.rewrites can.appends content can.cleanable)) j group).entry i) in
+        (λ j. ((tabled.lengths ∙ ap (content_map length) (reads_as (first_of p.append) (traces_in log.traces) rewrites appends content cleanable)) j group).entry i) in
         none_of (λ (y : EntryIndex). y.entry_len) ((content_in log.tables group).entry i) (lens ∙ ap (option_map length) (gone knows.below knows.above (cases_lt i (traces_in log.traces group).low)))
       where
         gone : ((j : ℕ) → j < (traces_in log.traces group).low → (content group).entry j ≡ None) → ((j : ℕ) → (traces_in log.traces group).low ≤ j → (traces_in log.traces group).next ≤ j → (content group).entry j ≡ None)
             → (i < (traces_in log.traces group).low) ⊎ ((traces_in log.traces group).low ≤ i) → (content group).entry i ≡ None
         gone below above (inl low) = below i low
         gone below above (inr high) = above i high behind
+
+pub tells : (d : Disk) (p : DualPipes) (log : TracedTables) (content : Content (List ℕ)) → CanClean d p log content → TellEntries (traces_in log.traces) (content_in log.tables)
+tells d p log content can = tells_so p log can.rewrites can.appends content can.tabled can.cleanable can.placed
+
+-- a group is there in the tables just where it is in the content
+pub there_seen : (d : Disk) (p : DualPipes) (log : TracedTables) (content : Content (List ℕ)) → CanClean d p log content → (group : ℕ) → (content_in log.tables group).there ≡ (content group).there
+there_seen d p log content can group j =
+    ((can.tabled.lengths ∙ ap (content_map length) (reads_as (first_of p.append) (traces_in log.traces) can.rewrites can.appends content can.cleanable)) j group).there
 
 -- ---- entries behind those that are counted
 

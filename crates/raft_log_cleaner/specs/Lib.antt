@@ -5,3 +5,4 @@ pub mod Copies
 pub mod Facts
 pub mod Told
 pub mod Written
+pub mod Live

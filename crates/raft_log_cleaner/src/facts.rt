@@ -55,9 +55,9 @@ fn older(file: Option<FileSeq>, other: Option<FileSeq>, mark: FileSeq) -> Option
 
 /// How many entries of a group lie where.
 #[derive(Clone, Copy, Debug, PartialEq, Eq)]
-struct Counts {
+pub(crate) struct Counts {
     /// In the rewrite queue.
-    rewritten: u64,
+    pub(crate) rewritten: u64,
     /// There, or in append files up to a mark.
     up_to_mark: u64,
     /// The oldest append file of those.
@@ -93,7 +93,7 @@ fn with_entry(counts: Counts, file: Option<FileSeq>, mark: FileSeq) -> Counts
 }
 
 /// Counts the entries of a group below an index.
-fn counts_of(tables: &MemTables, group: u64, limit: u64, mark: FileSeq) -> Counts
+pub(crate) fn counts_of(tables: &MemTables, group: u64, limit: u64, mark: FileSeq) -> Counts
     ensures rewritten { result.rewritten ≡ count_passing is_rewritten (content_in tables.now group).entry limit }
     ensures up_to_mark { result.up_to_mark ≡ count_passing (lies_up_to mark) (content_in tables.now group).entry limit }
     ensures oldest { IsOldestOfEntries (content_in tables.now group).entry mark limit result.oldest }
@@ -113,7 +113,7 @@ fn counts_of(tables: &MemTables, group: u64, limit: u64, mark: FileSeq) -> Count
 
 /// One past the entries of which some may lie in the rewrite queue, or in an append file before one:
 /// from it on each entry lies in that file, or in a later one.
-fn end_before(trace: &GroupTrace, file: FileSeq) -> u128
+pub(crate) fn end_before(trace: &GroupTrace, file: FileSeq) -> u128
     ensures { (i : ℕ) → result ≤ i → i < (trace_in trace.now).next → StandsFrom file ((trace_in trace.now).entry_file i) }
 {
     let stop = match trace.entries_before(file) {

@@ -5,11 +5,13 @@
 mod entries;
 mod facts;
 mod fault;
+mod live;
 mod manager;
 mod plan;
 mod writer;
 
 pub use entries::copies;
 pub use fault::of_record;
+pub use live::{live_of, rewritten_of};
 pub use manager::{PurgeManager, RewriteStep};
 pub use writer::{MOST_BATCH_BYTES, MOST_UNSYNCED_BYTES, place_of};

@@ -13,6 +13,7 @@ ghost use Rattle.raft_log_pipe.specs.Pipe.{first_of};
 ghost use Rattle.raft_log_pipes.specs.Kept.{KeepSettings};
 ghost use Rattle.raft_log_pipes.specs.Pipes.{IsAsBefore};
 ghost use Rattle.raft_log_purge.specs.Due.{IsLarge};
+ghost use Rattle.raft_log_purge.specs.Going.{GoesToNeeded};
 ghost use Rattle.raft_log_purge.specs.Reports.{count_in};
 ghost use Rattle.raft_log_traces.specs.GroupTraces.{traces_in};
 
@@ -255,21 +256,34 @@ pub struct PurgeManager {
     alloc: Global,
     /// The append queue is cleaned once its files may hold more bytes.
     purge_threshold: u64,
+    /// The rewrite queue isn't written anew unless its files may hold more bytes.
+    rewrite_threshold: u64,
+    /// Nor unless more per cent than these of what was written to it count no more.
+    garbage_percent: u64,
     /// How many times in a row groups were told to compact and left alone.
     reports: Reports,
 }
 
 impl PurgeManager {
-    /// A manager that has cleaned nothing yet. The threshold is in bytes (raft-engine's
-    /// `purge-threshold`).
-    pub fn new(alloc: Global, purge_threshold: u64) -> PurgeManager
+    /// A manager that has cleaned nothing yet. The thresholds are in bytes (raft-engine's
+    /// `purge-threshold`, and its `purge-rewrite-threshold` with `purge-rewrite-garbage-ratio`, which is
+    /// in per cent here).
+    pub fn new(
+        alloc: Global,
+        purge_threshold: u64,
+        rewrite_threshold: u64,
+        garbage_percent: u64,
+    ) -> PurgeManager
         ensures alloc { result.alloc ≡ alloc }
         ensures threshold { result.purge_threshold ≡ purge_threshold }
+        ensures rewrites { (result.rewrite_threshold ≡ rewrite_threshold) × (result.garbage_percent ≡ garbage_percent) }
         ensures reports { (group : ℕ) → count_in result.reports group ≡ 0 }
     {
         PurgeManager {
             alloc,
             purge_threshold,
+            rewrite_threshold,
+            garbage_percent,
             reports: Reports::new(alloc),
         }
     }
@@ -299,7 +313,7 @@ impl PurgeManager {
         clean_groups(self.alloc, files, pipes, log, &groups, before, step)
     }
 
-    /// Lets the append files go that no group needs any more, up to before the barrier, the first ones
+    /// Lets all append files go that no group needs any more, up to before the barrier, the first ones
     /// first, and answers how many went: the last step of raft-engine's `purge_expired_files`. The
     /// barrier is the least file that somebody else keeps. None goes from it on, after an `Err` either.
     pub fn purge_append_files<F: FileSystem>(
@@ -312,6 +326,7 @@ impl PurgeManager {
         requires { CanCleanSome (F.disk files.old) pipes.old log.now }
         ensures cleans { Cleans (F.disk files.old) pipes.old log.now (F.disk files.new) pipes.new log.now result }
         ensures barrier { KeepsFromBarrier barrier pipes.old pipes.new }
+        ensures gone { OnOk result (GoesToNeeded (traces_in log.now.traces) barrier pipes.old.append pipes.new.append) }
         ensures count { IfOk result (λ n. first_of pipes.old.append + n ≡ first_of pipes.new.append) }
         ensures kept { KeepsPipe pipes.old.rewrite (F.disk files.old) pipes.new.rewrite (F.disk files.new) }
         ensures set { KeepSettings pipes.old pipes.new }
@@ -330,6 +345,20 @@ impl PurgeManager {
         is_large(files_of(pipes, LogQueue::Append), self.purge_threshold)
     }
 
+    /// How many bytes the files of the rewrite queue may hold before it is judged by its garbage.
+    pub fn rewrite_threshold(&self) -> u64
+        ensures { result ≡ self.now.rewrite_threshold }
+    {
+        self.rewrite_threshold
+    }
+
+    /// How many per cent of what was written to the rewrite queue may be garbage.
+    pub fn garbage_percent(&self) -> u64
+        ensures { result ≡ self.now.garbage_percent }
+    {
+        self.garbage_percent
+    }
+
     /// Marks and rewrites groups as is planned, before a file of the append queue, and lets the files
     /// go that no group needs then.
     fn clean_planned<F: FileSystem>(
@@ -344,6 +373,7 @@ impl PurgeManager {
         requires { CanCleanSome (F.disk files.old) pipes.old log.old }
         ensures cleans { Cleans (F.disk files.old) pipes.old log.old (F.disk files.new) pipes.new log.new result }
         ensures barrier { KeepsFromBarrier barrier pipes.old pipes.new }
+        ensures gone { OnOk result (GoesToNeeded (traces_in log.new.traces) barrier pipes.old.append pipes.new.append) }
         ensures both { OnOk result (KeepBoth (F.disk files.old) pipes.old (F.disk files.new) pipes.new) }
         ensures stands { OnErr result (IsLeftStanding (F.disk files.old) pipes.old log.old (F.disk files.new) pipes.new) }
         ensures later { RefusesNoMore (F.is_bounded files.old) (F.is_bounded files.new) (F.meter files.old) (F.meter files.new) }
@@ -364,7 +394,7 @@ impl PurgeManager {
     /// Cleans the append queue where it is large, and answers the groups that whoever writes them is
     /// told to compact, rising, each once (raft-engine's `purge_expired_files`, of the append queue
     /// alone). First all groups get their marks. Then what lies up to the rewrite mark is rewritten of
-    /// those that aren't left alone. Then the files go that no group needs any more, up to before the
+    /// those that aren't left alone. Then all files go that no group needs any more, up to before the
     /// barrier, the least file that somebody else keeps. A queue that isn't large stays as it is, and no
     /// group is told.
     pub fn purge_expired_files<F: FileSystem>(
@@ -377,6 +407,8 @@ impl PurgeManager {
         requires { CanCleanSome (F.disk files.old) pipes.old log.old }
         ensures cleans { Cleans (F.disk files.old) pipes.old log.old (F.disk files.new) pipes.new log.new result }
         ensures barrier { KeepsFromBarrier barrier pipes.old pipes.new }
+        ensures gone { IsLarge (queue_of pipes.old.append) self.old.purge_threshold
+            → OnOk result (GoesToNeeded (traces_in log.new.traces) barrier pipes.old.append pipes.new.append) }
         ensures both { OnOk result (KeepBoth (F.disk files.old) pipes.old (F.disk files.new) pipes.new) }
         ensures stands { OnErr result (IsLeftStanding (F.disk files.old) pipes.old log.old (F.disk files.new) pipes.new) }
         ensures later { RefusesNoMore (F.is_bounded files.old) (F.is_bounded files.new) (F.meter files.old) (F.meter files.new) }
@@ -387,6 +419,7 @@ impl PurgeManager {
         ensures due { (IsLarge (queue_of pipes.old.append) self.old.purge_threshold → ⊥)
             → IsOkAnd result (λ told. told.items ≡ []) × (files.new ≡ files.old) × (pipes.new ≡ pipes.old) × (log.new ≡ log.old) × (self.new ≡ self.old) }
         ensures set { (self.new.alloc ≡ self.old.alloc) × (self.new.purge_threshold ≡ self.old.purge_threshold) }
+        ensures set_rewrites { (self.new.rewrite_threshold ≡ self.old.rewrite_threshold) × (self.new.garbage_percent ≡ self.old.garbage_percent) }
     {
         let Some(marks) = due_marks(pipes, self.purge_threshold) else {
             return Ok(Vec::new(self.alloc));

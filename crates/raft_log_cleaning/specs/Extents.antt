@@ -1,16 +1,22 @@
 -- What may be cleaned, and which files are there after it.
-use Rattle.std.specs.Prelude.{◌≡◌, ◌+◌, false}
+use Rattle.std.specs.Prelude.{◌≡◌, ◌+◌, Bool, false, true}
 use Rattle.raft_log_pipe.specs.Pipe.{first_of}
 use Rattle.raft_log_pipes.specs.declared.pipes.DualPipes.{DualPipes}
 use Rattle.raft_log_traced.specs.declared.traced.TracedTables.{TracedTables}
 use Rattle.raft_log_cleaning.specs.declared.cleaning.Extent.{Extent}
-use Rattle.raft_log_cleaning.specs.declared.cleaning.Extent.TheVariants.{Rewrites}
+use Rattle.raft_log_cleaning.specs.declared.cleaning.Extent.TheVariants.{All, Expired, Rewrites}
+
+-- the rewrite queue is written anew
+abbrev pub writes_anew : Extent → Bool
+writes_anew All = false
+writes_anew (Expired due) = due.rewrites
+writes_anew Rewrites = true
 
 -- An opening found no batch of the append queue that belongs to an atomic group. Where the rewrite queue is written anew it found the
 -- records of each atomic group there together
 pub record MayClean (extent : Extent) (log : TracedTables) : Type 0 where
   pub unmarked : log.has_marked ≡ false
-  pub together : extent ≡ Rewrites → log.is_parted ≡ false
+  pub together : writes_anew extent ≡ true → log.is_parted ≡ false
 
 -- all files that the rewrite queue had are gone, and those of the append queue are all there
 pub record HasOnlyNew (p q : DualPipes) : Type 0 where

@@ -4,19 +4,26 @@ ghost use Rattle.std.specs.List.Sorted.{IsStrictlySortedBy};
 ghost use Rattle.std.specs.Ordering.{nat_cmp};
 ghost use Rattle.std.specs.Prelude.{◌≡◌, ◌+◌, ◌↔◌, ℕ, true, false, IfOk, IsTrue, OnErr, OnOk, Option};
 ghost use Rattle.raft_log_cleaner.specs.Cleaning.{CanCleanSome, Cleans, IsLeftStanding, KeepsFromBarrier};
+ghost use Rattle.raft_log_cleaner.specs.Live.{AreLive};
 ghost use Rattle.raft_log_cleaner.specs.Pipes.{KeepBoth};
-ghost use Rattle.raft_log_cleaner.specs.Told.{is_among};
+ghost use Rattle.raft_log_cleaner.specs.Told.{AreTold, is_among, marks_of_pipe, queue_of};
 ghost use Rattle.raft_log_cleaning.specs.Extents.{HasOnlyNew, MayClean};
-ghost use Rattle.raft_log_cleaning.specs.declared.cleaning.Extent.TheVariants.{All, Rewrites};
+ghost use Rattle.raft_log_cleaning.specs.Told.{IsCleanedAnew};
+ghost use Rattle.raft_log_cleaning.specs.declared.cleaning.Extent.TheVariants.{All, Expired, Rewrites};
+ghost use Rattle.raft_log_cleaning.specs.declared.due.Due.{Due};
 ghost use Rattle.raft_log_disk.specs.Cause.{RefusesNoMore};
 ghost use Rattle.raft_log_memtables.specs.MemTables.{content_in};
 ghost use Rattle.raft_log_pipe.specs.Pipe.{first_of};
+ghost use Rattle.raft_log_purge.specs.Due.{IsLarge};
+ghost use Rattle.raft_log_purge.specs.Going.{GoesToNeeded};
+ghost use Rattle.raft_log_traces.specs.GroupTraces.{traces_in};
 
+use crate::due::Due;
+use crate::expired::{purge_expired, write_anew};
 use raft_log_cleaner::{PurgeManager, RewriteStep};
 use raft_log_files::{Error, FileSystem};
 use raft_log_pipes::DualPipes;
 use raft_log_records::FileSeq;
-use raft_log_rewriter::must_rewrite_rewrite_queue;
 use raft_log_traced::TracedTables;
 use std::alloc::Global;
 
@@ -25,8 +32,9 @@ use std::alloc::Global;
 pub enum Extent {
     /// All that is written to the append queue.
     All,
-    /// The oldest files of an append queue that is large.
-    Expired,
+    /// What is due: the rewrite queue, which is written anew, and the oldest files of an append queue
+    /// that is large.
+    Expired(Due),
     /// The rewrite queue, which is written anew.
     Rewrites,
 }
@@ -45,7 +53,8 @@ pub fn may_clean(extent: Extent, log: &TracedTables) -> bool
     ensures { IsTrue result ↔ MayClean extent log.now }
 {
     match extent {
-        Extent::All | Extent::Expired => !log.has_marked,
+        Extent::All => !log.has_marked,
+        Extent::Expired(due) => !log.has_marked && !(due.rewrites && log.is_parted),
         Extent::Rewrites => !log.has_marked && !log.is_parted,
     }
 }
@@ -64,6 +73,7 @@ fn clean_all<F: FileSystem>(
     ensures both { OnOk result (KeepBoth (F.disk files.old) pipes.old (F.disk files.new) pipes.new) }
     ensures stands { OnErr result (IsLeftStanding (F.disk files.old) pipes.old log.old (F.disk files.new) pipes.new) }
     ensures barrier { OnOk result (KeepsFromBarrier barrier pipes.old pipes.new) }
+    ensures gone { OnOk result (GoesToNeeded (traces_in log.new.traces) barrier pipes.old.append pipes.new.append) }
     ensures count { IfOk result (λ n. first_of pipes.old.append + n ≡ first_of pipes.new.append) }
     ensures later { RefusesNoMore (F.is_bounded files.old) (F.is_bounded files.new) (F.meter files.old) (F.meter files.new) }
 {
@@ -72,25 +82,6 @@ fn clean_all<F: FileSystem>(
         return Err(error);
     }
     manager.purge_append_files(files, pipes, log, barrier)
-}
-
-/// Writes the rewrite queue anew, and lets its old files go.
-fn write_anew<F: FileSystem>(
-    alloc: Global,
-    files: &mut F,
-    pipes: &mut DualPipes,
-    log: &mut TracedTables,
-) -> Result<(), Error>
-    requires can { CanCleanSome (F.disk files.old) pipes.old log.old }
-    requires together { log.old.is_parted ≡ false }
-    ensures cleans { Cleans (F.disk files.old) pipes.old log.old (F.disk files.new) pipes.new log.new result }
-    ensures both { OnOk result (KeepBoth (F.disk files.old) pipes.old (F.disk files.new) pipes.new) }
-    ensures stands { OnErr result (IsLeftStanding (F.disk files.old) pipes.old log.old (F.disk files.new) pipes.new) }
-    ensures anew { OnOk result (HasOnlyNew pipes.old pipes.new) }
-    ensures barrier { (barrier : Option ℕ) → OnOk result (KeepsFromBarrier barrier pipes.old pipes.new) }
-    ensures later { RefusesNoMore (F.is_bounded files.old) (F.is_bounded files.new) (F.meter files.old) (F.meter files.new) }
-{
-    must_rewrite_rewrite_queue(alloc, files, pipes, log)
 }
 
 /// Cleans as much of the log as is asked for, and no append file goes from the barrier on. After an
@@ -110,8 +101,16 @@ pub fn clean<F: FileSystem>(
     ensures both { OnOk result (KeepBoth (F.disk files.old) pipes.old (F.disk files.new) pipes.new) }
     ensures stands { OnErr result (IsLeftStanding (F.disk files.old) pipes.old log.old (F.disk files.new) pipes.new) }
     ensures barrier { OnOk result (KeepsFromBarrier barrier pipes.old pipes.new) }
+    ensures gone { extent ≡ All → OnOk result (GoesToNeeded (traces_in log.new.traces) barrier pipes.old.append pipes.new.append) }
+    ensures expired { (due : Due) → extent ≡ Expired due → IsLarge (queue_of pipes.old.append) manager.old.purge_threshold
+        → OnOk result (GoesToNeeded (traces_in log.new.traces) barrier pipes.old.append pipes.new.append) }
     ensures count { extent ≡ All → IfOk result (λ done. first_of pipes.old.append + done.went ≡ first_of pipes.new.append) }
     ensures anew { extent ≡ Rewrites → OnOk result (HasOnlyNew pipes.old pipes.new) }
+    ensures begins_again { extent ≡ Rewrites → OnOk result (AreLive log.old log.new.written) }
+    ensures told { (due : Due) → extent ≡ Expired due → due.rewrites ≡ false → IsLarge (queue_of pipes.old.append) manager.old.purge_threshold
+        → IfOk result (λ done. AreTold log.old (marks_of_pipe pipes.old.append) manager.old.reports manager.new.reports done.told.items) }
+    ensures both_queues { (due : Due) → extent ≡ Expired due → due.rewrites ≡ true → IfOk result (λ done. IsCleanedAnew (F.disk files.old) pipes.old log.old manager.old
+        (F.disk files.new) pipes.new log.new manager.new.reports done.told.items) }
     ensures rising { IfOk result (λ done. IsStrictlySortedBy nat_cmp done.told.items) }
     ensures there { IfOk result (λ done. (group : ℕ) → is_among done.told.items group ≡ true → (content_in log.old.tables group).there ≡ true) }
     ensures later { RefusesNoMore (F.is_bounded files.old) (F.is_bounded files.new) (F.meter files.old) (F.meter files.new) }
@@ -124,7 +123,9 @@ pub fn clean<F: FileSystem>(
             }),
             Err(error) => Err(error),
         },
-        Extent::Expired => match manager.purge_expired_files(files, pipes, log, barrier) {
+        Extent::Expired(due) => match purge_expired(
+            alloc, manager, files, pipes, log, due, barrier,
+        ) {
             Ok(told) => Ok(Cleaned { went: 0, told }),
             Err(error) => Err(error),
         },

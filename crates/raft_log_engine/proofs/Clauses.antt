@@ -239,10 +239,10 @@ module _ {F : Type 0} (disk : F → Disk) (old : Parts F) where
         }
 
     -- the blocks that are kept stay what they are, and the files may be cleaned by the traces of all batches
-    pub done_blocks : (traces others : GroupTraces) (was_marked now_marked was_parted now_parted : Bool) (cache : BlockCache) → HoldsBlocks (disk old.files) old.pipes (record { tables = old.tables; traces = traces; has_marked = was_marked; is_parted = was_parted }) old.wrote_unsynced cache
-        → IsNoted (record { tables = old.tables; traces = traces; has_marked = was_marked; is_parted = was_parted }) (record { tables = tables; traces = others; has_marked = now_marked; is_parted = now_parted }) h items → (wrote_unsynced : Bool) → (wrote_unsynced ≡ false → (sync ≡ true) × (old.wrote_unsynced ≡ false))
-        → HoldsBlocks (disk files) p (record { tables = tables; traces = others; has_marked = now_marked; is_parted = now_parted }) wrote_unsynced cache
-    done_blocks traces others was_marked now_marked was_parted now_parted cache held noted wrote_unsynced none =
+    pub done_blocks : (traces others : GroupTraces) (was_marked now_marked was_parted now_parted : Bool) (was_written now_written : ℕ) (cache : BlockCache) → HoldsBlocks (disk old.files) old.pipes (record { tables = old.tables; traces = traces; has_marked = was_marked; is_parted = was_parted; written = was_written }) old.wrote_unsynced cache
+        → IsNoted (record { tables = old.tables; traces = traces; has_marked = was_marked; is_parted = was_parted; written = was_written }) (record { tables = tables; traces = others; has_marked = now_marked; is_parted = now_parted; written = now_written }) h items → (wrote_unsynced : Bool) → (wrote_unsynced ≡ false → (sync ≡ true) × (old.wrote_unsynced ≡ false))
+        → HoldsBlocks (disk files) p (record { tables = tables; traces = others; has_marked = now_marked; is_parted = now_parted; written = now_written }) wrote_unsynced cache
+    done_blocks traces others was_marked now_marked was_parted now_parted was_written now_written cache held noted wrote_unsynced none =
         let b = held.batches in
         let l : Numbered = b.unsynced ++ (h.id.seq, items) ∷ [] in
         let m = is.puts b.synced b.unsynced b.held.append in
@@ -250,7 +250,7 @@ module _ {F : Type 0} (disk : F → Disk) (old : Parts F) where
         record {
           batches = done_batches b wrote_unsynced none;
           blocks = λ at bytes kept. settled_more old.pipes p b.rewrites (b.synced ++ b.unsynced) _ h.id.seq items is.other.same is.keeps split at bytes (held.blocks at bytes kept);
-          traces = more_traced old.pipes p (disk files) (record { tables = old.tables; traces = traces; has_marked = was_marked; is_parted = was_parted }) (record { tables = tables; traces = others; has_marked = now_marked; is_parted = now_parted }) b.rewrites (b.synced ++ b.unsynced)
+          traces = more_traced old.pipes p (disk files) (record { tables = old.tables; traces = traces; has_marked = was_marked; is_parted = was_parted; written = was_written }) (record { tables = tables; traces = others; has_marked = now_marked; is_parted = now_parted; written = now_written }) b.rewrites (b.synced ++ b.unsynced)
               (b.synced ++ take m.count l) (drop m.count l) h items b.held.pipes.append.numbers is.pipes.append.numbers is.keeps (is.stands b.synced b.unsynced b.held.append) m.holds (sym split) b.held.tabled.lengths noted held.traces;
         }
 

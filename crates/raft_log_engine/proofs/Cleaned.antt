@@ -18,6 +18,7 @@ use Rattle.raft_log_pipe.specs.declared.pipe.SinglePipe.{SinglePipe}
 use Rattle.raft_log_pipe.specs.Pipe.{Holds, Numbered, first_of}
 use Rattle.raft_log_pipes.specs.declared.pipes.DualPipes.{DualPipes}
 use Rattle.raft_log_memtables.specs.Content.{Content}
+use Rattle.raft_log_memtables.specs.MemTables.{content_in}
 use Rattle.raft_log_memtables.specs.Replay.{content_of}
 use Rattle.raft_log_covers.specs.Queues.{batches_of}
 use Rattle.raft_log_traces.specs.GroupTraces.{traces_in}
@@ -32,7 +33,9 @@ use Rattle.raft_log_pipe.specs.Kept.{KeepsSettings}
 use Rattle.raft_log_pipes.specs.Kept.{KeepSettings}
 use Rattle.raft_log_pipes.specs.Pipes.{pipe_of}
 use Rattle.raft_log_cleaner.specs.Cleaning.{CanClean, LeavesContent, LeavesStanding}
+use Rattle.raft_log_cleaner.specs.Facts.{TellEntries}
 use Rattle.raft_log_cleaner.specs.Pipes.{HasHoleBefore, KeepBoth}
+use Rattle.raft_log_cleaner.proofs.Telling.{tells_so}
 use Rattle.raft_log_cleaning.specs.Extents.{HasOnlyNew}
 use Rattle.raft_content_log.specs.Leaving.{LeavesNoMore}
 use Rattle.raft_log_engine.specs.declared.block_cache.BlockCache.{BlockCache}
@@ -72,6 +75,15 @@ pub synced_holds : (p q : SinglePipe) (d e : Disk) (r : Result (Unit {0}) Error)
     → (bs : Numbered) → Holds p d bs [] → Holds q e bs []
 synced_holds p q d e (Ok x) ok err bs holds = all_synced p q d e ok bs holds
 synced_holds p q d e (Err x) ok err bs holds = err bs [] holds
+
+-- what the traces tell of entries
+pub told_places : (d : Disk) (p : DualPipes) (traced : TracedTables) (wrote_unsynced : Bool) (cache : BlockCache) → HoldsBlocks d p traced wrote_unsynced cache
+    → traced.has_marked ≡ false → TellEntries (traces_in traced.traces) (content_in traced.tables)
+told_places d p traced wrote_unsynced cache held none =
+    let b = held.batches in
+    let appends : Numbered = b.synced ++ b.unsynced in
+    let may : MayBeCleaned p traced b.rewrites appends = held.traces none in
+    tells_so p traced b.rewrites appends (content_of_batches (b.rewrites ++ appends)) b.held.tabled may.cleanable may.placed
 
 module _ (d e : Disk) (p q : DualPipes) (traced : TracedTables) (wrote_unsynced : Bool) (cache : BlockCache) (held : HoldsBlocks d p traced wrote_unsynced cache) (still : IsStill d p e q)
     (syncs : wrote_unsynced ≡ true → (s u : Numbered) → Holds p.append d s u → Holds q.append e (s ++ u) []) where

@@ -21,7 +21,7 @@ use crate::engine::Engine;
 use crate::fault::EngineFault;
 use crate::memory::MemoryLog;
 use raft_content_log::CleanLog;
-use raft_log_cleaning::{Cleaned, Extent, clean, may_clean};
+use raft_log_cleaning::{Cleaned, Extent, clean, due_of, may_clean};
 use raft_log_files::{Error, FileSystem};
 use raft_log_pipes::DualPipes;
 use raft_log_records::{FileSeq, LogQueue};
@@ -172,13 +172,22 @@ impl<F: FileSystem + Drop> Engine<F> {
 }
 
 impl<F: FileSystem + Drop> Engine<F> {
-    /// Cleans the append queue where its files may have more bytes than `purge_threshold` of the
-    /// settings (raft-engine's `purge_expired_files`, of the append queue alone), and answers the groups
-    /// that whoever writes them is told to compact, rising, each once. Those are the groups that hold
-    /// old files back: with something in the oldest files, or entries in the rewrite queue, and with 32
-    /// entries or more in old files. Told nine times in a row a group is left alone, and the next time it
-    /// is rewritten. No file goes from the barrier on, the least file that somebody else keeps. Where the
-    /// queue isn't large nothing is done, nor where an opening found a batch of the append queue that
+    /// Cleans both queues where they are due (raft-engine's `purge_expired_files`), and answers the groups
+    /// that whoever writes them is told to compact, rising, each once.
+    ///
+    /// The rewrite queue comes first. It is written anew where it has more than one file, these may have
+    /// more bytes than `purge_rewrite_threshold` of the settings, and more than
+    /// `purge_rewrite_garbage_percent` of the entries and keys that were written to it, since it was last
+    /// written anew, count no more. Groups with more than 32 entries in it are told. Where an opening
+    /// found records of an atomic group in it that stand apart it is left alone.
+    ///
+    /// The append queue is cleaned where its files may have more bytes than `purge_threshold`. Groups are
+    /// told that hold old files back: with something in the oldest files, or entries in the rewrite queue,
+    /// and with 32 entries or more in old files. Told nine times in a row a group is left alone, and the
+    /// next time it is rewritten. No file goes from the barrier on, the least file that somebody else
+    /// keeps.
+    ///
+    /// Where neither is due nothing is done, nor where an opening found a batch of the append queue that
     /// belongs to an atomic group. The content stays, whatever is refused. After a refusal the engine is
     /// stopped.
     pub fn purge_expired_files(&mut self, barrier: Option<FileSeq>) -> Result<Vec<u64>, EngineFault>
@@ -192,7 +201,8 @@ impl<F: FileSystem + Drop> Engine<F> {
         ensures opens_still { IsSound self.old → StandsAlone F.disk self.old → OpensAs (directories_of_engine self.new) (F.disk self.new.files) (answers_on F.disk self.old) }
         ensures opens_in_tail { self.old.is_stopped ≡ false → StandsAlone F.disk self.old → OpensInTail (directories_of_engine self.new) (F.disk self.new.files) self.new.pipes }
         ensures barrier { OnOk result (KeepsFromBarrier barrier self.old.pipes self.new.pipes) }
-        ensures few { self.old.is_stopped ≡ false → self.old.pipes.append.older.items ≡ [] → IsOkAnd result (λ groups. groups.items ≡ []) × (self.new ≡ self.old) }
+        ensures few { self.old.is_stopped ≡ false → self.old.pipes.append.older.items ≡ [] → self.old.pipes.rewrite.older.items ≡ []
+            → IsOkAnd result (λ groups. groups.items ≡ []) × (self.new ≡ self.old) }
         ensures reads { self.new.block_reads ≡ self.old.block_reads }
         ensures stopped { self.old.is_stopped ≡ true → result ≡ Err Stopped }
         ensures stops { OnErr result (self.new.is_stopped ≡ true) }
@@ -202,10 +212,14 @@ impl<F: FileSystem + Drop> Engine<F> {
             return Err(EngineFault::Stopped);
         }
         let none = Vec::new(self.alloc);
-        if !self.manager.needs_rewrite_log_files(&self.pipes) {
+        let Ok(due) = due_of(&self.manager, &self.pipes, &self.traced) else {
+            self.is_stopped = true;
+            return Err(EngineFault::Log(Error::Memory));
+        };
+        let Some(due) = due else {
             return Ok(none);
-        }
-        match self.clean_by(Extent::Expired, barrier) {
+        };
+        match self.clean_by(Extent::Expired(due), barrier) {
             Ok(done) => Ok(done.told),
             Err(EngineFault::Marked) => Ok(none),
             Err(fault) => Err(fault),

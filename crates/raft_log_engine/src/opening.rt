@@ -14,6 +14,7 @@ ghost use Rattle.raft_log_memtables.specs.Content.{Content, nothing};
 ghost use Rattle.raft_log_pipe.specs.Alone.{IsOnce};
 ghost use Rattle.raft_log_records.specs.declared.file_id.LogQueue.{LogQueue};
 ghost use Rattle.raft_log_files.specs.Settings.{sanitized, settings_fault, settings_of};
+ghost use Rattle.raft_log_files.specs.Size.{size_of};
 ghost use Rattle.raft_log_files.specs.declared.error.CorruptionFault.{CorruptionFault};
 ghost use Rattle.raft_log_files.specs.declared.error.Error.TheVariants.{Corruption, Other};
 ghost use Rattle.raft_log_files.specs.declared.error.OtherFault.{OtherFault};
@@ -60,6 +61,17 @@ fn sound_settings(mut config: Config) -> Result<Config, Error>
 {
     config.sanitize()?;
     Ok(config)
+}
+
+/// How many bytes the rewrite queue may have before it is judged by its garbage, which settings may
+/// leave open.
+fn rewrite_threshold_of(config: &Config) -> u64
+    ensures { (sanitized (settings_of config.now)).purge_rewrite_threshold ≡ Some (size_of result) }
+{
+    match config.purge_rewrite_threshold {
+        Some(size) => size.0,
+        None => (config.purge_threshold.0 / 10).max(config.target_file_size.0),
+    }
 }
 
 /// The pipes over the files that are there, and the tables and traces of their batches, where each
@@ -174,7 +186,12 @@ impl<F: FileSystem + Drop> Engine<F> {
             → IfErr result (λ refused. IsUnopenable (settings_fault (settings_of config)) config.recovery_mode (directories_of (settings_of config))
             (F.disk files) (F.disk refused.files) refused.fault) }
     {
-        let purge_threshold = config.purge_threshold.0;
+        let manager = PurgeManager::new(
+            alloc,
+            config.purge_threshold.0,
+            rewrite_threshold_of(&config),
+            config.purge_rewrite_garbage_percent,
+        );
         match found_soundly(way, &mut files, alloc, config) {
             Ok((pipes, traced)) => Ok(Engine {
                 alloc,
@@ -184,7 +201,7 @@ impl<F: FileSystem + Drop> Engine<F> {
                 is_stopped: false,
                 wrote_unsynced: false,
                 blocks: BlockCache::new(alloc),
-                manager: PurgeManager::new(alloc, purge_threshold),
+                manager,
             }),
             Err(fault) => Err(NotOpened { fault, files }),
         }

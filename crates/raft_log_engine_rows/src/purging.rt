@@ -1,4 +1,4 @@
-//! Cleanings of the append queue where it is large, and the groups that are told then.
+//! Cleanings of both queues where they are due, and the groups that are told then.
 
 use crate::calls::{Told, told_at};
 use crate::reopening::{config_of, stopped};
@@ -115,8 +115,8 @@ fn are_there(
     Ok(Told::There(all))
 }
 
-/// Cleans the append queue if it is large. Tells the groups that are told to compact, and whether a
-/// file went.
+/// Cleans both queues where they are due. Tells the groups that are told to compact, and whether an
+/// append file went.
 fn expire(engine: &mut Engine<MemoryFileSystem>) -> Result<Told, EngineFault> {
     let (before, _) = engine.file_span(LogQueue::Append);
     let groups = engine.purge_expired_files(None)?;
@@ -168,14 +168,14 @@ fn opened(
     }
 }
 
-/// What each step told, on an engine whose append queue is large past so many bytes. At the words
-/// `stop:closed`, `stop:least` and `stop:most` it is opened again.
-pub fn expired(
+/// An engine behind some steps, and what each of them told. Its append queue is large past so many
+/// bytes. At the words `stop:closed`, `stop:least` and `stop:most` it is opened again.
+fn behind(
     alloc: Global,
     target_size: u64,
     threshold: u64,
     words: &[&str],
-) -> Result<Vec<Told>, EngineFault> {
+) -> Result<(Engine<MemoryFileSystem>, Vec<Told>), EngineFault> {
     let mut engine = opened(MemoryFileSystem::new(alloc), alloc, target_size, threshold)?;
     let mut all = Vec::new(alloc);
     for word in words {
@@ -187,5 +187,85 @@ pub fn expired(
             None => all.push(told_by(&mut engine, alloc, word))?,
         }
     }
+    Ok((engine, all))
+}
+
+/// What each step told, on an engine whose append queue is large past so many bytes.
+pub fn expired(
+    alloc: Global,
+    target_size: u64,
+    threshold: u64,
+    words: &[&str],
+) -> Result<Vec<Told>, EngineFault> {
+    let (_, all) = behind(alloc, target_size, threshold, words)?;
     Ok(all)
+}
+
+/// What an engine has of a group: its id, its first index, the bytes of its entries, and its last
+/// index, as it stands under its key.
+type Had = (u64, Option<u64>, Vec<Vec<u8>>, Option<Vec<u8>>);
+
+/// What an engine has of a group.
+fn had_of(engine: &mut Engine<MemoryFileSystem>, group: u64) -> Result<Had, EngineFault> {
+    let first = engine.first_index(group)?;
+    let begin = first.unwrap_or(0);
+    let end = match engine.last_index(group)? {
+        Some(last) => last.saturating_add(1),
+        None => begin,
+    };
+    let entries = engine.fetch_entries_to(group, begin, end, None)?;
+    let key = engine.get(group, b"last_index".as_slice())?;
+    Ok((group, first, entries, key))
+}
+
+/// What an engine has of each group.
+fn content_of(
+    engine: &mut Engine<MemoryFileSystem>,
+    alloc: Global,
+) -> Result<Vec<Had>, EngineFault> {
+    let groups = engine.raft_groups()?;
+    let mut content = Vec::new(alloc);
+    for group in &groups {
+        content.push(had_of(engine, *group)?)?;
+    }
+    Ok(content)
+}
+
+/// Cleans both queues where they are due, on files that refuse the changing call of this number, and
+/// stops. Tells whether it was `Ok`, and whether the content is as before once the files are opened.
+fn stopped_at(
+    alloc: Global,
+    how: &str,
+    sizes: (u64, u64),
+    words: &[&str],
+    call: u64,
+) -> Result<(bool, bool), EngineFault> {
+    let (mut engine, _) = behind(alloc, sizes.0, sizes.1, words)?;
+    let before = content_of(&mut engine, alloc)?;
+    engine.set_fuse(Some(call));
+    let is_clean = engine.purge_expired_files(None).is_ok();
+    engine.set_fuse(None);
+    let mut engine = opened(stopped(engine, how)?, alloc, sizes.0, sizes.1)?;
+    let found = content_of(&mut engine, alloc)?;
+    Ok((is_clean, found == before))
+}
+
+/// Whether the content stays, wherever a cleaning behind some steps is stopped: at its first changing
+/// call, at its second one, and so on, until none is refused.
+pub fn kept_at_stops(
+    alloc: Global,
+    how: &str,
+    sizes: (u64, u64),
+    words: &[&str],
+) -> Result<bool, EngineFault> {
+    for call in 1..1000u64 {
+        let (is_clean, is_kept) = stopped_at(alloc, how, sizes, words, call)?;
+        if !is_kept {
+            return Ok(false);
+        }
+        if is_clean {
+            return Ok(true);
+        }
+    }
+    Ok(false)
 }

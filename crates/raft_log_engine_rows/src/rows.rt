@@ -6,7 +6,7 @@ use crate::damage::{Harm, harmed};
 use crate::found::{littered, many_groups, spilled, unread};
 use crate::logs::{crash, genuine, refused_openings};
 use crate::patient::keeps_told;
-use crate::purging::expired;
+use crate::purging::{expired, kept_at_stops};
 use crate::reopening::{config_of, reopened, run_of};
 use crate::stops::{Plan, closes_of, first_stops, stops_of};
 use raft_log_engine::{Engine, EngineFault};
@@ -139,6 +139,10 @@ fn found_row(alloc: Global, words: &[&str]) -> Option<Answer> {
         ["expired", target_size, threshold, steps @ ..] => {
             let (target_size, threshold) = (number(target_size), number(threshold));
             Answer::shown(alloc, &expired(alloc, target_size, threshold, steps))
+        }
+        ["expires", how, target_size, threshold, steps @ ..] => {
+            let sizes = (number(target_size), number(threshold));
+            Answer::shown(alloc, &kept_at_stops(alloc, how, sizes, steps))
         }
         ["groups", how, target_size, len] => {
             let (target_size, len) = (number(target_size), number(len));

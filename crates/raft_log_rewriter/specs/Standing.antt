@@ -134,5 +134,6 @@ pub record BeginsFile {X E : Type 0} (d : Disk) (p : DualPipes) (log : TracedTab
 pub record LetsGo {X E : Type 0} (d : Disk) (p : DualPipes) (log : TracedTables) (next : ℕ) (e : Disk) (q : DualPipes) (result : Result X E) : Type 0 where
   pub ok : (content : Content (List ℕ)) → HasRewritten d p log next content → OnOk result (CanRewrite e q log content)
   pub err : (content : Content (List ℕ)) → HasRewritten d p log next content → OnErr result (LeavesContent e q content)
+  pub append : IsAsBefore p.append d q.append e
   pub kept : OnOk result (KeepsPipes d p e q)
   pub left : (content : Content (List ℕ)) → HasRewritten d p log next content → OnErr result (LeavesStanding d p e q content)

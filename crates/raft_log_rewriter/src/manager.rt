@@ -93,9 +93,9 @@ fn let_old_go<F: FileSystem>(
 
 /// Writes the rewrite queue anew, whatever it is (raft-engine's `must_rewrite_rewrite_queue`): behind
 /// its old records, into a new file, goes all that each group has there, each group in one record or in
-/// one atomic group of records. Then, after a sync, the old files go. A list with a hole or one that
-/// reaches the greatest index, as files that somebody else wrote may leave it, is refused as
-/// `EntryNotFound`. After an `Err` the log is to be opened again.
+/// one atomic group of records. Then, after a sync, the old files go. The append queue stays. A list with
+/// a hole or one that reaches the greatest index, as files that somebody else wrote may leave it, is
+/// refused as `EntryNotFound`. After an `Err` the log is to be opened again.
 pub fn must_rewrite_rewrite_queue<F: FileSystem>(
     alloc: Global,
     files: &mut F,
@@ -105,6 +105,7 @@ pub fn must_rewrite_rewrite_queue<F: FileSystem>(
     requires { CanRewriteSome (F.disk files.old) pipes.old log.old }
     ensures rewrites { Rewrites (F.disk files.old) pipes.old log.old (F.disk files.new) pipes.new log.new result }
     ensures gone { OnOk result (first_of pipes.new.rewrite ≡ pipes.old.rewrite.active.seq + 1) }
+    ensures append { pipes.new.append ≡ pipes.old.append }
     ensures kept { OnOk result (KeepsPipes (F.disk files.old) pipes.old (F.disk files.new) pipes.new) }
     ensures left { OnErr result (IsLeftStanding (F.disk files.old) pipes.old log.old (F.disk files.new) pipes.new) }
     ensures later { RefusesNoMore (F.is_bounded files.old) (F.is_bounded files.new) (F.meter files.old) (F.meter files.new) }

@@ -4,3 +4,4 @@ pub mod OpenedLemmas
 pub mod ReplayedLemmas
 pub mod MarkedLemmas
 pub mod PartedLemmas
+pub mod WrittenLemmas

@@ -1,3 +1,4 @@
 pub mod Places
 pub mod Traced
 pub mod Opened
+pub mod Written

@@ -6,5 +6,6 @@ mod marked;
 mod opened;
 mod places;
 mod traced;
+mod written;
 
 pub use traced::{TracedReplay, TracedTables};

@@ -1,6 +1,6 @@
 //! Memtables with the traces of their groups.
 
-ghost use Rattle.std.specs.Prelude.{◌≡◌, ◌↔◌, ◌++◌, ℕ, List, None, false, IfOk, OnOk};
+ghost use Rattle.std.specs.Prelude.{◌≡◌, ◌↔◌, ◌+◌, ◌++◌, ℕ, List, None, false, IfOk, OnOk};
 ghost use Rattle.raft_log_covers.specs.Cells.{AreUnmarked};
 ghost use Rattle.raft_log_covers.specs.Kept.{new_trace, traces_after};
 ghost use Rattle.raft_log_covers.specs.Queues.{FilesRise, batches_of};
@@ -15,13 +15,15 @@ ghost use Rattle.raft_log_recovery.specs.Replay.{Placed};
 ghost use Rattle.raft_log_records.specs.declared.file_id.LogQueue.TheVariants.{Append, Rewrite};
 ghost use Rattle.raft_log_replay.specs.Batches.{content_over, reach_over, records_in};
 ghost use Rattle.raft_log_traced.specs.Places.{items_moved};
-ghost use Rattle.raft_log_traced.specs.Traced.{AreOf, IsReplayedTraced, any_marked, filed_in, lies_in};
+ghost use Rattle.raft_log_traced.specs.Traced.{AreOf, IsReplayedTraced, any_marked, filed_in, lies_in, rewrites_in};
+ghost use Rattle.raft_log_traced.specs.Written.{counted, written_in, written_in_all};
 ghost use Rattle.raft_log_traces.specs.Alike.{AreAlike};
 ghost use Rattle.raft_log_traces.specs.GroupTraces.{traces_in};
 
 use crate::marked::with_marks;
 use crate::opened::{set_entries, set_removals};
 use crate::places::set_places;
+use crate::written::with_written;
 use raft_log_files::Error;
 use raft_log_memtables::MemTables;
 use raft_log_purge::Together;
@@ -44,6 +46,9 @@ pub struct TracedTables {
     /// Records of an atomic group stood apart in the rewrite queue that an opening replayed. So that
     /// queue isn't to be written anew: while its first records go, others could count again.
     pub is_parted: bool,
+    /// How many entries and keys the records had that were written to the rewrite queue, since it was
+    /// last written anew. It stays at 2^64 - 1.
+    pub written: u64,
 }
 
 impl TracedTables {
@@ -54,12 +59,14 @@ impl TracedTables {
         ensures traces { (group : ℕ) → traces_in result.traces group ≡ new_trace }
         ensures marked { result.has_marked ≡ false }
         ensures parted { result.is_parted ≡ false }
+        ensures written { result.written ≡ 0 }
     {
         TracedTables {
             tables: MemTables::new(alloc),
             traces: GroupTraces::new(alloc),
             has_marked: false,
             is_parted: false,
+            written: 0,
         }
     }
 
@@ -71,21 +78,25 @@ impl TracedTables {
         ensures traces { OnOk result (AreAlike (traces_after handle.id.seq (items_of batch.items.items) (traces_in self.old.traces)) (traces_in self.new.traces)) }
         ensures marked { self.new.has_marked ≡ self.old.has_marked }
         ensures parted { self.new.is_parted ≡ self.old.is_parted }
+        ensures written { self.new.written ≡ self.old.written }
     {
         self.traces.apply(handle.id.seq, &batch.items)?;
         self.tables.apply(batch, handle)
     }
 
     /// A batch with these items was written to the rewrite queue: the entries of each item that are
-    /// there lie in the block of this handle now. Nothing else changes.
+    /// there lie in the block of this handle now, and its entries and keys are counted. Nothing else
+    /// changes.
     pub fn set_places(&mut self, items: &[LogItem], handle: FileBlockHandle)
         ensures content { content_in self.new.tables ≡ items_moved handle items.now (content_in self.old.tables) }
         ensures reach { reach_in self.new.tables ≡ reach_in self.old.tables }
         ensures traces { self.new.traces ≡ self.old.traces }
         ensures marked { self.new.has_marked ≡ self.old.has_marked }
         ensures parted { self.new.is_parted ≡ self.old.is_parted }
+        ensures written { self.new.written ≡ counted (self.old.written + written_in (items_of items.now)) }
     {
         set_places(&mut self.tables, items, handle);
+        self.written = with_written(self.written, items);
     }
 }
 
@@ -98,6 +109,8 @@ pub struct TracedReplay {
     pub(crate) has_marked: bool,
     /// Whether records of atomic groups stand together, of the rewrite queue.
     pub(crate) together: Together,
+    /// How many entries and keys the records of the rewrite queue have.
+    pub(crate) written: u64,
 }
 
 impl ReplayMachine for TracedReplay {
@@ -111,7 +124,10 @@ impl ReplayMachine for TracedReplay {
                 self.has_marked = with_marks(self.has_marked, &batch.items);
                 self.traces.apply(handle.id.seq, &batch.items)?
             }
-            LogQueue::Rewrite => self.together.add(&batch.items),
+            LogQueue::Rewrite => {
+                self.together.add(&batch.items);
+                self.written = with_written(self.written, &batch.items);
+            }
         }
         self.replayed.replay(batch, handle)
     }
@@ -124,6 +140,7 @@ impl NewMachine for TracedReplay {
             traces: GroupTraces::new(alloc),
             has_marked: false,
             together: Together::new(),
+            written: 0,
         }
     }
 }
@@ -145,9 +162,11 @@ impl TracedReplay {
             → IfOk result (λ log. log.has_marked ≡ false → AreUnmarked (batches_of (filed_in appends))) }
         ensures together { (rewrites : List Placed) (appends : List Placed) → IsReplayedTraced self (rewrites ++ appends) → AreOf Rewrite rewrites → AreOf Append appends
             → IfOk result (λ log. (log.is_parted ≡ false) ↔ StandTogether (records_in rewrites)) }
+        ensures written { (placed : List Placed) → IsReplayedTraced self placed → IfOk result (λ log. log.written ≡ counted (written_in_all (rewrites_in placed))) }
     {
         let has_marked = self.has_marked;
         let is_parted = !self.together.stand();
+        let written = self.written;
         let tables = self.replayed.finish();
         let mut traces = self.traces;
         set_removals(&mut traces, first)?;
@@ -157,6 +176,7 @@ impl TracedReplay {
             traces,
             has_marked,
             is_parted,
+            written,
         })
     }
 }

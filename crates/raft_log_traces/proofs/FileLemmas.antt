@@ -1,22 +1,28 @@
 -- Which files are kept.
 use Rattle.std.proofs.Common.{◌≡◌, ◌≤◌, ◌<◌, ℕ, Bool, true, false, cond, List, [], ◌∷◌, ◌++◌, Option, Some, None, refl, sym, ap, subst, arith, le_refl, suc, min, ltb-true, ltb-false, leb-false, ◌⊎◌, inl, inr, ⊎_elim, ◌∙◌, IsSome}
-use Rattle.std.specs.Prelude.{◌||◌, nat_eq, nat_le, nat_lt, IfSome, MatchOption}
+use Rattle.std.specs.Prelude.{◌||◌, nat_eq, nat_le, nat_lt, IfSome, MatchOption, Vec}
+use Rattle.std.specs.declared.alloc.Global.{Global}
+use Rattle.std.specs.declared.cmp.Ordering.{Ordering}
+use Rattle.std.specs.Cmp.Lexicographic.{slice_cmp}
 use Rattle.std.specs.Map.{lookup, values_of}
 use Rattle.std.specs.Ordering.{nat_cmp, is_eq}
-use Rattle.std.specs.List.{list_any}
-use Rattle.std.specs.BTreeMap.{BTreeMap, values, is_at}
+use Rattle.std.specs.List.{All, list_any}
+use Rattle.std.specs.BTreeMap.{BTreeMap, IsOrdered, get, values, is_at}
+use Rattle.std.proofs.lemmas.Cmp.{nat_cmp_total, nat_list_cmp_total, on_total}
+use Rattle.std.proofs.lemmas.List.Elements.{All-head, All-tail}
+use Rattle.std.proofs.lemmas.Map.Views.{All-found}
 use Rattle.std.proofs.lemmas.Bool.{le-leb, leb-true, lt-leb, lt-ltb, le-ltb, eq-eqb, eqb-true}
 use Rattle.raft_log_memtables.proofs.Cells.{apart_number}
 use Rattle.raft_log_memtables.specs.Entries.{or_else}
 use Rattle.raft_log_covers.specs.Account.{IsFrom}
-use Rattle.raft_log_covers.specs.Trace.{Trace, least}
+use Rattle.raft_log_covers.specs.Trace.{Trace, greater, least}
 use Rattle.raft_log_covers.specs.Kept.{new_trace}
 use Rattle.raft_log_traces.specs.declared.runs.Run.{Run}
 use Rattle.raft_log_traces.specs.declared.group_trace.GroupTrace.{GroupTrace}
 use Rattle.raft_log_traces.specs.Runs.{file_in, file_above}
 use Rattle.raft_log_traces.specs.Before.{StandsFrom}
 use Rattle.raft_log_traces.specs.Files.{KeepsFrom, IsKeptFrom, least_with, AllKeepFrom}
-use Rattle.raft_log_traces.specs.Traces.{trace_of, trace_by, traces_at}
+use Rattle.raft_log_traces.specs.Traces.{key_file_in, trace_of, trace_by, traces_at}
 use Rattle.raft_log_traces.proofs.RunLemmas.{last_run}
 
 from_least : (n : ℕ) (a b : Option ℕ) → IsFrom n (least a b) → IsFrom n a × IsFrom n b
@@ -24,7 +30,7 @@ from_least n None b h = (tt, h)
 from_least n (Some f) None h = (h, tt)
 from_least n (Some f) (Some g) h = (omega (arith, h), omega (arith, h))
 
-AllFrom : ℕ → List ℕ → Type 0
+pub AllFrom : ℕ → List ℕ → Type 0
 AllFrom n [] = Unit {0}
 AllFrom n (f ∷ fs) = (n ≤ f) × AllFrom n fs
 
@@ -167,7 +173,22 @@ above_from n floor rs i h = by_test (nat_lt i floor) refl
     by_test true e = tt
     by_test false e = h (ltb-false i floor e)
 
-keeps : (n : ℕ) (t : GroupTrace) (entries : Option ℕ) → ((n : ℕ) → IsFrom n entries → KeepsRuns n t.floor t.next t.runs.items) → IsFrom n (least_with (least (least t.since t.tail) entries) (values t.keys)) → KeepsFrom n (trace_of t)
+-- a greater one of two
+greater_within : (m n i : ℕ) → m ≤ i → n ≤ i → greater m n ≤ i
+greater_within m n i l k = by_test (nat_lt m n)
+  where
+    by_test : (b : Bool) → cond b n m ≤ i
+    by_test true = k
+    by_test false = l
+
+pub greater_least : (m n : ℕ) → (m ≤ greater m n) × (n ≤ greater m n)
+greater_least m n = by_test (nat_lt m n) refl
+  where
+    by_test : (b : Bool) → nat_lt m n ≡ b → (m ≤ cond b n m) × (n ≤ cond b n m)
+    by_test true e = let l = ltb-true m n e in (omega (arith, l), le_refl n)
+    by_test false e = (le_refl m, ltb-false m n e)
+
+keeps : (n : ℕ) (t : GroupTrace) (entries : Option ℕ) → ((n : ℕ) → IsFrom n entries → KeepsRuns n (greater t.floor t.low) t.next t.runs.items) → IsFrom n (least_with (least (least t.since t.tail) entries) (values t.keys)) → KeepsFrom n (trace_of t)
 keeps n t entries k h =
     let with_keys = from_with n (least (least t.since t.tail) entries) (values t.keys) h in
     let with_entries = from_least n (least t.since t.tail) entries with_keys.0 in
@@ -175,11 +196,11 @@ keeps n t entries k h =
     record {
       since = removed.0;
       tail = removed.1;
-      entries = λ i l m. above_from n t.floor t.runs.items i (λ g. k n with_entries.1 i g m);
+      entries = λ i l m. above_from n t.floor t.runs.items i (λ g. k n with_entries.1 i (greater_within t.floor t.low i g l) m);
       keys = λ name. found_from n _ t.keys.entries with_keys.1;
     }
 
-pub kept_from : (t : GroupTrace) (entries o : Option ℕ) → ((n : ℕ) → IsFrom n entries → KeepsRuns n t.floor t.next t.runs.items) → o ≡ least_with (least (least t.since t.tail) entries) (values t.keys) → IsKeptFrom o (trace_of t)
+pub kept_from : (t : GroupTrace) (entries o : Option ℕ) → ((n : ℕ) → IsFrom n entries → KeepsRuns n (greater t.floor t.low) t.next t.runs.items) → o ≡ least_with (least (least t.since t.tail) entries) (values t.keys) → IsKeptFrom o (trace_of t)
 kept_from t entries None k e = λ n. keeps n t entries k (subst (λ (x : Option ℕ). IsFrom n x) e tt)
 kept_from t entries (Some f) k e = keeps f t entries k (subst (λ (x : Option ℕ). IsFrom f x) e (le_refl f))
 
@@ -225,6 +246,57 @@ pub trace_seen : (n : ℕ) (t : GroupTrace) (o old new : Option ℕ) (left rest 
 trace_seen n t o old new left rest all e l k h f r =
     let both = from_least n old o (subst (λ (x : Option ℕ). IsFrom n x) l f) in
     h both.0 (subst (AllKeepFrom n) (sym e) (kept_at n o (trace_of t) k both.1, r))
+
+-- ---- no later file would do
+
+pub least_from : (n : ℕ) (a b : Option ℕ) → IsFrom n a → IsFrom n b → IsFrom n (least a b)
+least_from n None b h k = k
+least_from n (Some f) None h k = h
+least_from n (Some f) (Some g) h k = omega (arith, h, k)
+
+pub with_from : (n : ℕ) (file : Option ℕ) (files : List ℕ) → IsFrom n file → AllFrom n files → IsFrom n (least_with file files)
+unfolding AllFrom
+with_from n file [] h k = h
+with_from n file (f ∷ fs) h k = with_from n (least file (Some f)) fs (least_from n file (Some f) h k.0) k.1
+
+abbrev by_name : Vec ℕ Global → Vec ℕ Global → Ordering
+by_name x y = slice_cmp nat_cmp x.items y.items
+
+-- of the keys in a map
+pub keys_from : (n : ℕ) (keys : BTreeMap (Vec ℕ Global) ℕ) → IsOrdered (λ x y. slice_cmp nat_cmp x.items y.items) keys → ((k : List ℕ) → IsFrom n (key_file_in keys k)) → AllFrom n (values keys)
+unfolding AllFrom
+keys_from n keys s h = each keys.entries (All-found (on_total (λ (v : Vec ℕ Global). v.items) nat_list_cmp_total) keys s)
+  where
+    each : (es : List (Vec ℕ Global × ℕ)) → All (λ e. get by_name keys e.0 ≡ Some e.1) es → AllFrom n (values_of es)
+    each [] a = tt
+    each (e ∷ es) a = (subst (λ (o : Option ℕ). IsFrom n o) (All-head (λ e. get by_name keys e.0 ≡ Some e.1) e es a) (h e.0.items), each es (All-tail (λ e. get by_name keys e.0 ≡ Some e.1) e es a))
+
+-- of the entries of a group, one of which stands in the least file
+pub reached_from : (n : ℕ) (t : GroupTrace) (o : Option ℕ) → IfSome o (IsReached (greater t.floor t.low) t.next t.runs.items) → KeepsFrom n (trace_of t) → IsFrom n o
+reached_from n t None s h = tt
+reached_from n t (Some f) s h =
+    let ends = greater_least t.floor t.low in
+    let from_floor = ends.0 in
+    let from_low = ends.1 in
+    let at = s.1 in
+    let over : t.floor ≤ s.0 = omega (arith, from_floor, at) in
+    subst (λ (o : Option ℕ). IsFrom n o) (ap (λ (b : Bool). cond b None (file_in t.runs.items s.0)) (le-ltb s.0 t.floor over) ∙ s.3) (h.entries s.0 (omega (arith, from_low, at)) s.2)
+
+-- of the traces of all groups
+pub traces_keep : (n : ℕ) (traces : BTreeMap ℕ GroupTrace) → IsOrdered nat_cmp traces → ((group : ℕ) → KeepsFrom n (traces_at traces group)) → AllKeepFrom n (values traces)
+traces_keep n traces s h = each traces.entries (All-found nat_cmp_total traces s)
+  where
+    each : (es : List (ℕ × GroupTrace)) → All (λ e. get nat_cmp traces e.0 ≡ Some e.1) es → AllKeepFrom n (values_of es)
+    each [] a = tt
+    each (e ∷ es) a =
+        (subst (λ (o : Option GroupTrace). KeepsFrom n (trace_by o)) (All-head (λ e. get nat_cmp traces e.0 ≡ Some e.1) e es a) (h e.0), each es (All-tail (λ e. get nat_cmp traces e.0 ≡ Some e.1) e es a))
+
+-- what is seen of them so far: the least file of these is no earlier, and the others still keep none
+pub seen_from : (n : ℕ) (t : GroupTrace) (o old new : Option ℕ) (left rest : List GroupTrace) → left ≡ t ∷ rest → new ≡ least old o → (KeepsFrom n (trace_of t) → IsFrom n o) → IsFrom n old × AllKeepFrom n left
+    → IsFrom n new × AllKeepFrom n rest
+seen_from n t o old new left rest e l k h =
+    let both = subst (AllKeepFrom n) e h.1 in
+    (subst (λ (x : Option ℕ). IsFrom n x) (sym l) (least_from n old o h.0 (k both.0)), both.1)
 
 -- ---- from which index on all stand in late files
 

@@ -1,6 +1,6 @@
 //! Which append files are kept.
 
-ghost use Rattle.std.specs.Prelude.{◌≡◌, ◌≤◌, ◌<◌, ◌-◌, ◌∷◌, ◌==◌, ℕ, length, drop, Some, false};
+ghost use Rattle.std.specs.Prelude.{◌≡◌, ◌≤◌, ◌<◌, ◌-◌, ◌∷◌, ◌==◌, ℕ, List, length, drop, Some, false};
 ghost use Rattle.std.specs.Prelude.{IfSome, IfOk};
 ghost use Rattle.std.specs.Bool.{OnTrue, OnFalse};
 ghost use Rattle.std.specs.List.{list_any};
@@ -9,7 +9,7 @@ ghost use Rattle.raft_log_traces.specs.Before.{IsBefore};
 ghost use Rattle.std.specs.BTreeMap.{values};
 ghost use Rattle.raft_log_traces.specs.Files.{KeepsFrom, IsKeptFrom, least_with, AllKeepFrom};
 ghost use Rattle.raft_log_traces.specs.Runs.{file_in};
-ghost use Rattle.raft_log_traces.specs.Traces.{trace_in, traces_at};
+ghost use Rattle.raft_log_traces.specs.Traces.{key_file_in, trace_in, traces_at};
 ghost use Rattle.raft_log_traces.specs.GroupTraces.{traces_in};
 
 use crate::group_trace::{GroupTrace, earlier, later, lesser};
@@ -58,7 +58,9 @@ fn least_of_entries(runs: &[Run], floor: u128, next: u128) -> Option<FileSeq>
 
 /// The least of a file and the files of keys.
 fn least_with_keys(file: Option<FileSeq>, keys: &BTreeMap<Vec<u8>, FileSeq>) -> Option<FileSeq>
-    ensures { result ≡ least_with file (values keys.now) }
+    ensures is { result ≡ least_with file (values keys.now) }
+    // No later file is before none of them.
+    ensures least { (n : ℕ) → IsFrom n file → ((k : List ℕ) → IsFrom n (key_file_in keys.now k)) → IsFrom n result }
 {
     let mut least = file;
     for other in keys.values() {
@@ -72,17 +74,21 @@ impl GroupTrace {
     /// to this group. None: all may.
     #[tactic(auto, unfolding(crate::specs::Traces::trace_in))]
     pub fn least_file(&self) -> Option<FileSeq>
-        ensures { IsKeptFrom result (trace_in self.now) }
+        ensures kept { IsKeptFrom result (trace_in self.now) }
+        // No later file would do.
+        ensures least { (n : ℕ) → KeepsFrom n (trace_in self.now) → IsFrom n result }
     {
         let removed = lesser(self.since, self.tail);
-        let entries = least_of_entries(&self.runs, self.floor, self.next);
+        let first = later(self.floor, self.low);
+        let entries = least_of_entries(&self.runs, first, self.next);
         least_with_keys(lesser(removed, entries), &self.keys)
     }
 }
 
 /// The least file of all groups.
 fn least_of_traces(traces: &TraceMap) -> Option<FileSeq>
-    ensures { (n : ℕ) → IsFrom n result → AllKeepFrom n (values traces.now) }
+    ensures kept { (n : ℕ) → IsFrom n result → AllKeepFrom n (values traces.now) }
+    ensures least { (n : ℕ) → ((group : ℕ) → KeepsFrom n (traces_at traces.now group)) → IsFrom n result }
 {
     let mut least = None;
     for trace in traces.values() {
@@ -130,7 +136,9 @@ impl GroupTraces {
     /// it may go. None: all may.
     #[tactic(auto, unfolding(crate::specs::GroupTraces::traces_in))]
     pub fn min_file_seq(&self) -> Option<FileSeq>
-        ensures { (group : ℕ) → IsKeptFrom result (traces_in self.now group) }
+        ensures kept { (group : ℕ) → IsKeptFrom result (traces_in self.now group) }
+        // No later file would do.
+        ensures least { (n : ℕ) → ((group : ℕ) → KeepsFrom n (traces_in self.now group)) → IsFrom n result }
     {
         least_of_traces(&self.traces)
     }

@@ -7,6 +7,7 @@ use raft_log_host::{HostFileSystem, OpenError};
 use raft_machines::AddingMachine;
 use raft_node_script::{HomeRefusal, NodeHome};
 use raft_store::Store;
+use std::thread::Threads;
 
 /// The directory of a node (own).
 #[derive(Drop)]
@@ -65,13 +66,13 @@ fn refusal_of_log(fault: &EngineFault, files: &HostFileSystem) -> HomeRefusal {
 impl NodeHome for DiskHome {
     type Storage = Store<AddingMachine, HostLog>;
 
-    fn open(&mut self) -> Result<Self::Storage, HomeRefusal> {
+    fn open<R: Threads + Sync>(&mut self, rt: &R) -> Result<Self::Storage, HomeRefusal> {
         let alloc = self.rt.alloc();
         let Ok(settings) = self.settings.clone() else {
             return Err(HomeRefusal::Memory);
         };
         let files = self.files()?;
-        match HostLog::open(alloc, HostFiles { settings, files }) {
+        match HostLog::open_by_workers(rt, alloc, HostFiles { settings, files }) {
             Ok(log) => Ok(Store::new(alloc, log)),
             Err(NotOpened { fault, files }) => {
                 let directory = self.settings.dir.as_str();

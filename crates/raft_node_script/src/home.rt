@@ -1,10 +1,12 @@
 //! Where a node has its storage.
 ghost use Rattle.std.specs.Prelude.{◌≡◌};
+ghost use Rattle.std.specs.Thread.{IsSync};
 ghost use Rattle.raft_node_script.specs.Home.{label_of};
 
 use raft_group_storage::GroupStorage;
 use raft_messages::SnapshotBytes;
 use raft_storage_cleaning::CleanStorage;
+use std::thread::Threads;
 
 /// Why a node's storage isn't opened (own).
 #[derive(Clone, Copy, Debug, PartialEq, Eq)]
@@ -41,8 +43,9 @@ pub trait NodeHome: Drop {
     /// The node's groups, stored.
     type Storage: GroupStorage<Snapshot = SnapshotBytes> + CleanStorage;
 
-    /// Opens what is stored, as after a crash.
-    fn open(&mut self) -> Result<Self::Storage, HomeRefusal>;
+    /// Opens what is stored, as after a crash, on threads that the handle makes: they share it.
+    fn open<R: Threads + Sync>(&mut self, rt: &R) -> Result<Self::Storage, HomeRefusal>
+        requires shared { IsSync R.row };
 
     /// The node has stopped: why its storage failed may be said somewhere.
     fn complain(&self, storage: &Self::Storage);

@@ -5,11 +5,13 @@ use crate::script::NodeScript;
 use raft_script_session::{ScriptEnd, run_lines};
 use std::alloc::Global;
 use std::io::{Read, Write};
+use std::thread::Threads;
 
 /// Opens the node of this id with what is stored at its home, and runs the script that the reader gives
 /// (own). The answer of the opening is written first, and then that of each line, before the next read
 /// waits. Lines, answers and statuses are described in docs/SCRIPT.md, "One node on a disk".
-pub fn run_node_script<H: NodeHome, R: Read, W: Write>(
+pub fn run_node_script<H: NodeHome, R: Read, W: Write, T: Threads + Sync>(
+    rt: &T,
     alloc: Global,
     id: u64,
     home: H,
@@ -17,11 +19,11 @@ pub fn run_node_script<H: NodeHome, R: Read, W: Write>(
     writer: &mut W,
 ) -> ScriptEnd {
     let mut script = NodeScript::new(alloc, id, home);
-    let Ok(text) = script.reopen() else {
+    let Ok(text) = script.reopen(rt) else {
         return ScriptEnd::Memory;
     };
     if writer.write_all(text.as_bytes()).is_err() || writer.flush().is_err() {
         return ScriptEnd::Fault;
     }
-    run_lines(alloc, &mut script, reader, writer)
+    run_lines(rt, alloc, &mut script, reader, writer)
 }

@@ -10,6 +10,7 @@ use raft_node::{Fault, Fed, Node, NotOpened, Opened, Outcome};
 use raft_script_answers::{AppliedTotal, Refusal, refused_text, total_text};
 use raft_script_session::LineRunner;
 use std::alloc::{AllocError, Global};
+use std::thread::Threads;
 
 /// A node, and what was counted of its script (own).
 #[derive(Drop)]
@@ -36,9 +37,9 @@ impl<H: NodeHome> NodeScript<H> {
     }
 
     /// The node is opened with what is stored at its home; one that is up is closed before.
-    pub fn reopen(&mut self) -> Result<String, AllocError> {
+    pub fn reopen<R: Threads + Sync>(&mut self, rt: &R) -> Result<String, AllocError> {
         self.node = None;
-        let storage = match self.home.open() {
+        let storage = match self.home.open(rt) {
             Ok(storage) => storage,
             Err(why) => return unopened_text(self.alloc, why),
         };
@@ -157,7 +158,7 @@ impl<H: NodeHome> NodeScript<H> {
     }
 
     // Runs a line.
-    fn take(&mut self, line: NodeLine) -> Result<String, AllocError> {
+    fn take<R: Threads + Sync>(&mut self, rt: &R, line: NodeLine) -> Result<String, AllocError> {
         match line {
             NodeLine::Skipped => Ok(String::new(self.alloc)),
             NodeLine::Now { tick } => self.set_now(tick),
@@ -166,7 +167,7 @@ impl<H: NodeHome> NodeScript<H> {
             NodeLine::Ask { group, call } => self.ask(group, &call),
             NodeLine::Feed { peer, piece } => self.feed(peer, piece.as_slice()),
             NodeLine::Clean => self.clean(),
-            NodeLine::Reopen => self.reopen(),
+            NodeLine::Reopen => self.reopen(rt),
         }
     }
 }
@@ -174,10 +175,14 @@ impl<H: NodeHome> NodeScript<H> {
 impl<H: NodeHome> LineRunner for NodeScript<H> {
     ghost runs = { λ _ _ _ _. Unit {0} };
 
-    fn run_line(&mut self, line: &[u8]) -> Result<Option<String>, AllocError> {
+    fn run_line<R: Threads + Sync>(
+        &mut self,
+        rt: &R,
+        line: &[u8],
+    ) -> Result<Option<String>, AllocError> {
         match read_node_line(self.alloc, self.id, self.tick, self.tokens, line)? {
             Some(ReadNodeLine { line, tokens }) => {
-                let text = self.take(line)?;
+                let text = self.take(rt, line)?;
                 self.tokens = tokens;
                 Ok(Some(text))
             }

@@ -10,9 +10,7 @@ use Rattle.raft_laws.specs.GroupWorld.{Down, NodeState, Up}
 use Rattle.raft_list_facts.specs.Leads.{leading_of}
 use Rattle.raft_list_facts.specs.declared.leading.Leading.{Leading}
 use Rattle.raft_cluster_laws.proofs.EventKept.{is_only}
-use Rattle.raft_log_engine.specs.declared.memory.LogFiles.{LogFiles}
 use Rattle.raft_machines.specs.Machine.{MachineRules}
-use Rattle.raft_machines.specs.declared.machine.StateMachine.{Ghosts}
 use Rattle.raft_node.specs.Reading.{TellsOf, machine_in, place_in}
 use Rattle.raft_node.specs.Running.{Running, RunsAt}
 use Rattle.raft_node.specs.Standing.{NodeValue}
@@ -21,6 +19,7 @@ use Rattle.raft_node_joint.proofs.LeadingDown.{is_stored}
 use Rattle.raft_node_joint.proofs.Others.{is_down}
 use Rattle.raft_node_laws.specs.Law.{Lends, leading_in}
 use Rattle.raft_nodes_on_files.specs.Acts.{LeadsAs, runs_of, unless_failed}
+use Rattle.raft_nodes_on_files.specs.Kinds.{NodeKind}
 use Rattle.raft_nodes_on_files.specs.Standing.{MayBeIn, UpNode, value}
 
 -- a reader tells this of what runs at a node that goes on, and nothing of one that has failed
@@ -71,16 +70,16 @@ module _ (rules : MachineRules) where
   leads_when true n h told states s failed may has tells =
       let (st, down) = is_down rules n h states may s has in tells.failed failed ∙ sym (ap leading_in down)
 
-module _ {M : Type 0} {g : Ghosts M} (rules : MachineRules) (state : M → List ℕ) where
-  pub lends_in : (id : ℕ) (up : Option (UpNode M g)) (files : LogFiles) (h : ℕ) (states : List NodeState) (s : NodeState)
-      → MayBeIn rules state id up files h states → Contains states s → Lends rules s (machine_in (runs_of rules state up h)) (place_in (runs_of rules state up h))
+module _ (k : NodeKind) where
+  pub lends_in : (id : ℕ) (up : Option (UpNode k)) (files : k.Files) (h : ℕ) (states : List NodeState) (s : NodeState)
+      → MayBeIn k id up files h states → Contains states s → Lends k.rules s (machine_in (runs_of k up h)) (place_in (runs_of k up h))
   lends_in id None files h states s m has =
-      let (st, down) = stored_there (m.one ∷ m.more) states s m.parts has in subst (λ x. Lends rules x None None) (sym down) (refl, refl)
-  lends_in id (Some n) files h states s m has = lends_when rules n.groups.has_failed (value rules state n) h states s m.may_be has
+      let (st, down) = stored_there (m.one ∷ m.more) states s m.parts has in subst (λ x. Lends k.rules x None None) (sym down) (refl, refl)
+  lends_in id (Some n) files h states s m has = lends_when k.rules n.groups.has_failed (value k n) h states s m.may_be has
 
-  pub leads_in : (id : ℕ) (up : Option (UpNode M g)) (files : LogFiles) (h : ℕ) (told : Option Leading) (states : List NodeState) (s : NodeState)
-      → MayBeIn rules state id up files h states → Contains states s → LeadsAs rules state up h told → told ≡ leading_in s
+  pub leads_in : (id : ℕ) (up : Option (UpNode k)) (files : k.Files) (h : ℕ) (told : Option Leading) (states : List NodeState) (s : NodeState)
+      → MayBeIn k id up files h states → Contains states s → LeadsAs k up h told → told ≡ leading_in s
   leads_in id None files h told states s m has tells =
       let (st, down) = stored_there (m.one ∷ m.more) states s m.parts has in tells ∙ sym (ap leading_in down)
   leads_in id (Some n) files h told states s m has tells =
-      leads_when rules n.groups.has_failed (value rules state n) h told states s refl m.may_be has tells
+      leads_when k.rules n.groups.has_failed (value k n) h told states s refl m.may_be has tells

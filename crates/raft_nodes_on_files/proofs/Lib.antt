@@ -1,3 +1,4 @@
+mod Files
 mod Standing
 mod Led
 mod Taken

@@ -9,7 +9,6 @@ use Rattle.raft_cluster_conditions.specs.Cuts.{are_cuts}
 use Rattle.raft_cluster_events.specs.declared.node.NodeOutcome.{NodeOutcome}
 use Rattle.raft_cluster_events.specs.declared.outcome.NodeError.{NodeError}
 use Rattle.raft_machines.specs.Machine.{MachineRules}
-use Rattle.raft_machines.specs.declared.machine.StateMachine.{Ghosts}
 use Rattle.raft_node.specs.Feeding.{FeedsPart, FeedsWhole, FrameCame, StaysBut, StopsForRoom, fed_as, so_far}
 use Rattle.raft_node.specs.Settling.{IsStoppedBy, IsTold}
 use Rattle.raft_node.specs.Standing.{NodeValue}
@@ -21,11 +20,11 @@ use Rattle.raft_store.specs.Reading.{StandsFor}
 use Rattle.raft_wire.specs.Frames.{FitsFrame, spelled_frame}
 use Rattle.raft_wire.specs.Stream.{fresh, holding}
 use Rattle.raft_wire.specs.declared.frame.Frame.{Frame}
-use Rattle.raft_nodes_on_files.specs.Acts.{FeedsTo, IsFed, IsFedOn, IsPassed, IsUpAs, WhenUp, file_node_acts, refused, some_outcome}
+use Rattle.raft_nodes_on_files.specs.Acts.{FeedsTo, IsFed, IsFedOn, IsPassed, IsUpAs, WhenUp, log_node_acts, refused, some_outcome}
 use Rattle.raft_nodes_on_files.specs.Answering.{error_of}
 use Rattle.raft_nodes_on_files.specs.Kept.{KeepingFault}
-use Rattle.raft_nodes_on_files.specs.Standing.{UpNode, value}
-use Rattle.raft_nodes_on_files.specs.declared.file_node.FileNode.{FileNode}
+use Rattle.raft_nodes_on_files.specs.Kinds.{NodeKind}
+use Rattle.raft_nodes_on_files.specs.Standing.{NodeOf, UpNode, value}
 use Rattle.raft_nodes_on_files.proofs.Taken.{Answer}
 
 abbrev some_fed : NodeOutcome → Result (Option NodeOutcome) NodeError
@@ -62,75 +61,75 @@ stays_twice a b c peer one two = record {
   kept = λ group parts shown. two.kept group parts (one.kept group parts shown);
 }
 
-module _ {M : Type 0} {g : Ghosts M} (rules : MachineRules) (state : M → List ℕ) (frame : Frame) (fits : FitsFrame frame) (peer now : ℕ) (n : UpNode M g) where
-  abbrev of : UpNode M g → NodeValue
-  of m = value rules state m
+module _ (k : NodeKind) (frame : Frame) (fits : FitsFrame frame) (peer now : ℕ) (n : UpNode k) where
+  abbrev of : UpNode k → NodeValue
+  of m = value k m
 
   abbrev bytes : List ℕ
   bytes = spelled_frame frame
 
   -- behind pieces of a frame
-  pub record IsAlong (held : List ℕ) (x : UpNode M g) : Type 0 where
+  pub record IsAlong (held : List ℕ) (x : UpNode k) : Type 0 where
     pub stays : StaysBut (of n) (of x) peer
     pub holds : (of x).streams peer ≡ holding held
     pub others : (other : ℕ) → (other ≡ peer → ⊥) → (of x).streams other ≡ (of n).streams other
 
   -- the frame came whole to its group
-  pub record CameWhole (old : FileNode M g) (answered : Result (Option NodeOutcome) NodeError) (new : FileNode M g) : Type 0 where
-    pub x : UpNode M g
+  pub record CameWhole (old : NodeOf k) (answered : Result (Option NodeOutcome) NodeError) (new : NodeOf k) : Type 0 where
+    pub x : UpNode k
     pub held : List ℕ
     pub along : IsAlong held x
-    pub y : UpNode M g
-    pub result : Answer
-    pub came : FrameCame rules (StandsFor rules) (of x) (of y) peer now frame result
+    pub y : UpNode k
+    pub result : Answer (KeepingFault k)
+    pub came : FrameCame k.rules (StandsFor k.rules) (of x) (of y) peer now frame result
     pub one : Result NodeOutcome NodeError
-    pub passed : IsPassed rules state old y result one new
+    pub passed : IsPassed k old y result one new
     pub answer : answered ≡ some_outcome one
 
   -- or memory was lacking for a piece
-  pub record LackedRoom (old : FileNode M g) (answered : Result (Option NodeOutcome) NodeError) (new : FileNode M g) : Type 0 where
-    pub x : UpNode M g
+  pub record LackedRoom (old : NodeOf k) (answered : Result (Option NodeOutcome) NodeError) (new : NodeOf k) : Type 0 where
+    pub x : UpNode k
     pub held : List ℕ
     pub along : IsAlong held x
-    pub y : UpNode M g
-    pub why : Fault KeepingFault
+    pub y : UpNode k
+    pub why : Fault (KeepingFault k)
     pub stopped : IsStoppedBy cause.Memory why
     pub told : IsTold ⊥ (of x) (of y) why
-    pub answer : answered ≡ Err (error_of why)
-    pub up : IsUpAs rules state old new y
+    pub answer : answered ≡ Err (error_of k.cause why)
+    pub up : IsUpAs k old new y
 
-  abbrev pub CameOrNot : FileNode M g → Result (Option NodeOutcome) NodeError → FileNode M g → Type 0
+  abbrev pub CameOrNot : NodeOf k → Result (Option NodeOutcome) NodeError → NodeOf k → Type 0
   CameOrNot old answered new = CameWhole old answered new ⊎ LackedRoom old answered new
 
-  module _ (going : (of n).groups.has_failed ≡ false) (old : FileNode M g) where
+  module _ (going : (of n).groups.has_failed ≡ false) (old : NodeOf k) where
     -- a node along the pieces
-    pub record IsHere (node : FileNode M g) (x : UpNode M g) (begin : ℕ) : Type 0 where
+    pub record IsHere (node : NodeOf k) (x : UpNode k) (begin : ℕ) : Type 0 where
       pub id : node.id ≡ old.id
       pub up : node.up ≡ Some x
       pub along : IsAlong (take begin bytes) x
       pub inside : begin < length bytes
 
-    still_going : (x : UpNode M g) (held : List ℕ) → IsAlong held x → (of x).groups.has_failed ≡ false
+    still_going : (x : UpNode k) (held : List ℕ) → IsAlong held x → (of x).groups.has_failed ≡ false
     still_going x held along = along.stays.has_failed ∙ going
 
-    sound : (x : UpNode M g) (held : List ℕ) → IsAlong held x → ((of x).streams peer).failed ≡ false
+    sound : (x : UpNode k) (held : List ℕ) → IsAlong held x → ((of x).streams peer).failed ≡ false
     sound x held along = ap (λ f. f.failed) along.holds
 
-    far : (x : UpNode M g) (held p : List ℕ) → IsAlong held x → so_far (of x) peer p ≡ held ++ p
+    far : (x : UpNode k) (held p : List ℕ) → IsAlong held x → so_far (of x) peer p ≡ held ++ p
     far x held p along = ap (λ f. f.held ++ p) along.holds
 
     -- what was answered is of the node that the pieces began at
-    passed_on : (node : FileNode M g) (y : UpNode M g) (result : Answer) (one : Result NodeOutcome NodeError) (new : FileNode M g) → node.id ≡ old.id
-        → IsPassed rules state node y result one new → IsPassed rules state old y result one new
+    passed_on : (node : NodeOf k) (y : UpNode k) (result : Answer (KeepingFault k)) (one : Result NodeOutcome NodeError) (new : NodeOf k) → node.id ≡ old.id
+        → IsPassed k node y result one new → IsPassed k old y result one new
     passed_on node y (Ok o) one new id (inl (answer, up)) = inl (answer, (up.0 ∙ id, up.1))
     passed_on node y (Ok o) one new id (inr s) = inr (record { failed = s.failed; why = s.why; fails = s.fails; answer = s.answer; up = (s.up.0 ∙ id, s.up.1) })
     passed_on node y (Err why) one new id (answer, up) = (answer, (up.0 ∙ id, up.1))
 
     -- ---- the last piece
 
-    fed_whole : (node : FileNode M g) (x : UpNode M g) (begin : ℕ) → IsHere node x begin → (y : UpNode M g) (outcomes : List Outcome) (met : Option (Fault KeepingFault)) (used : ℕ)
-        (p : List ℕ) → FeedsWhole rules (StandsFor rules) (of x) (of y) peer now frame p outcomes met used
-        → (first : Result (Option NodeOutcome) NodeError) (next : FileNode M g) → IsFedOn rules state node y outcomes met first next
+    fed_whole : (node : NodeOf k) (x : UpNode k) (begin : ℕ) → IsHere node x begin → (y : UpNode k) (outcomes : List Outcome) (met : Option (Fault (KeepingFault k))) (used : ℕ)
+        (p : List ℕ) → FeedsWhole k.rules (StandsFor k.rules) (of x) (of y) peer now frame p outcomes met used
+        → (first : Result (Option NodeOutcome) NodeError) (next : NodeOf k) → IsFedOn k node y outcomes met first next
         → CameOrNot old first next
     fed_whole node x begin here y [] None used p whole first next fed = absurd whole
     fed_whole node x begin here y [] (Some why) used p (inl (took, came)) first next fed = inl (record {
@@ -140,7 +139,7 @@ module _ {M : Type 0} {g : Ghosts M} (rules : MachineRules) (state : M → List 
       y = y;
       result = Err why;
       came = came;
-      one = Err (error_of why);
+      one = Err (error_of k.cause why);
       passed = (refl, (fed.1.0 ∙ here.id, fed.1.1));
       answer = fed.0;
     })
@@ -173,21 +172,21 @@ module _ {M : Type 0} {g : Ghosts M} (rules : MachineRules) (state : M → List 
     some_there (Ok o) is = let no : some_fed o ≡ none_fed = is in cc
     some_there (Err why) is = let no : Err why ≡ none_fed = is in cc
 
-    there : (first : Result (Option NodeOutcome) NodeError) (next : FileNode M g) → CameOrNot old first next → first ≡ Ok None → ⊥
+    there : (first : Result (Option NodeOutcome) NodeError) (next : NodeOf k) → CameOrNot old first next → first ≡ Ok None → ⊥
     there first next (inl c) is = some_there c.one (sym c.answer ∙ is)
-    there first next (inr l) is = let no : Err (error_of l.why) ≡ none_fed = sym l.answer ∙ is in cc
+    there first next (inr l) is = let no : Err (error_of k.cause l.why) ≡ none_fed = sym l.answer ∙ is in cc
 
     -- what it comes to is the answer
-    ended : (first : Result (Option NodeOutcome) NodeError) (next : FileNode M g) (answered : Result (Option NodeOutcome) NodeError) (new : FileNode M g) (rest : Type 0)
-        → (first ≡ Ok None → ⊥) → GoesOn (file_node_acts rules state) first next answered new rest → CameOrNot old first next → CameOrNot old answered new
+    ended : (first : Result (Option NodeOutcome) NodeError) (next : NodeOf k) (answered : Result (Option NodeOutcome) NodeError) (new : NodeOf k) (rest : Type 0)
+        → (first ≡ Ok None → ⊥) → GoesOn (log_node_acts k) first next answered new rest → CameOrNot old first next → CameOrNot old answered new
     ended (Ok None) next answered new rest not goes c = absurd (not refl)
     ended (Ok (Some o)) next answered new rest not goes c = subst (λ a. CameOrNot old a new) (sym goes.0) (subst (CameOrNot old (Ok (Some o))) (sym goes.1) c)
     ended (Err why) next answered new rest not goes c = subst (λ a. CameOrNot old a new) (sym goes.0) (subst (CameOrNot old (Err why)) (sym goes.1) c)
 
-    last : (node : FileNode M g) (x : UpNode M g) (begin : ℕ) → IsHere node x begin → (answered : Result (Option NodeOutcome) NodeError) (new : FileNode M g)
-        → Comes (file_node_acts rules state) peer now node (piece bytes begin (length bytes) ∷ []) answered new → CameOrNot old answered new
+    last : (node : NodeOf k) (x : UpNode k) (begin : ℕ) → IsHere node x begin → (answered : Result (Option NodeOutcome) NodeError) (new : NodeOf k)
+        → Comes (log_node_acts k) peer now node (piece bytes begin (length bytes) ∷ []) answered new → CameOrNot old answered new
     last node x begin here answered new (first, next, feeds, goes) =
-        let f = subst (λ u. WhenUp rules state node next u (first ≡ refused) (λ m. FeedsTo rules state m peer (piece bytes begin (length bytes)) now node first next)) here.up feeds in
+        let f = subst (λ u. WhenUp k node next u (first ≡ refused) (λ m. FeedsTo k m peer (piece bytes begin (length bytes)) now node first next)) here.up feeds in
         let p = piece bytes begin (length bytes) in
         let some : 0 < length p = piece_long bytes begin (length bytes) here.inside (omega arith) in
         let whole = f.fed.whole frame (still_going x (take begin bytes) here.along) (sound x (take begin bytes) here.along) fits some
@@ -197,13 +196,13 @@ module _ {M : Type 0} {g : Ghosts M} (rules : MachineRules) (state : M → List 
 
     -- ---- a piece before it
 
-    abbrev Rest : FileNode M g → ℕ → List ℕ → Result (Option NodeOutcome) NodeError → FileNode M g → Type 0
-    Rest next cut cuts answered new = Comes (file_node_acts rules state) peer now next (pieces_from bytes cut cuts) answered new
+    abbrev Rest : NodeOf k → ℕ → List ℕ → Result (Option NodeOutcome) NodeError → NodeOf k → Type 0
+    Rest next cut cuts answered new = Comes (log_node_acts k) peer now next (pieces_from bytes cut cuts) answered new
 
-    fed_part : (node : FileNode M g) (x : UpNode M g) (begin cut : ℕ) (cuts : List ℕ) → IsHere node x begin → begin < cut → cut < length bytes
-        → (y : UpNode M g) (outcomes : List Outcome) (met : Option (Fault KeepingFault)) (used : ℕ)
-        → FeedsPart rules (StandsFor rules) (of x) (of y) peer now (piece bytes begin cut) outcomes met used
-        → (first : Result (Option NodeOutcome) NodeError) (next : FileNode M g) → IsFedOn rules state node y outcomes met first next
+    fed_part : (node : NodeOf k) (x : UpNode k) (begin cut : ℕ) (cuts : List ℕ) → IsHere node x begin → begin < cut → cut < length bytes
+        → (y : UpNode k) (outcomes : List Outcome) (met : Option (Fault (KeepingFault k))) (used : ℕ)
+        → FeedsPart k.rules (StandsFor k.rules) (of x) (of y) peer now (piece bytes begin cut) outcomes met used
+        → (first : Result (Option NodeOutcome) NodeError) (next : NodeOf k) → IsFedOn k node y outcomes met first next
         → (IsHere next y cut × (first ≡ Ok None)) ⊎ CameOrNot old first next
     fed_part node x begin cut cuts here up within y [] None used (took, left, stays) first next fed =
         let held = far x (take begin bytes) (piece bytes begin cut) here.along ∙ held_so bytes begin cut (omega (arith, up)) in
@@ -235,14 +234,14 @@ module _ {M : Type 0} {g : Ghosts M} (rules : MachineRules) (state : M → List 
 
     -- ---- all pieces
 
-    goes_on : (first : Result (Option NodeOutcome) NodeError) (next : FileNode M g) (answered : Result (Option NodeOutcome) NodeError) (new : FileNode M g) (rest : Type 0)
-        → first ≡ Ok None → GoesOn (file_node_acts rules state) first next answered new rest → rest
+    goes_on : (first : Result (Option NodeOutcome) NodeError) (next : NodeOf k) (answered : Result (Option NodeOutcome) NodeError) (new : NodeOf k) (rest : Type 0)
+        → first ≡ Ok None → GoesOn (log_node_acts k) first next answered new rest → rest
     goes_on (Ok None) next answered new rest is goes = goes
     goes_on (Ok (Some o)) next answered new rest is goes = absurd (let no : some_fed o ≡ none_fed = is in cc)
     goes_on (Err why) next answered new rest is goes = absurd (let no : Err why ≡ none_fed = is in cc)
 
-    pub pieces_come : (cuts : List ℕ) (node : FileNode M g) (x : UpNode M g) (begin : ℕ) → IsHere node x begin → are_cuts begin (length bytes) cuts ≡ true
-        → (answered : Result (Option NodeOutcome) NodeError) (new : FileNode M g) → Comes (file_node_acts rules state) peer now node (pieces_from bytes begin cuts) answered new
+    pub pieces_come : (cuts : List ℕ) (node : NodeOf k) (x : UpNode k) (begin : ℕ) → IsHere node x begin → are_cuts begin (length bytes) cuts ≡ true
+        → (answered : Result (Option NodeOutcome) NodeError) (new : NodeOf k) → Comes (log_node_acts k) peer now node (pieces_from bytes begin cuts) answered new
         → CameOrNot old answered new
     pieces_come [] node x begin here cut_so answered new comes = last node x begin here answered new comes
     pieces_come (cut ∷ cuts) node x begin here cut_so answered new (first, next, feeds, goes) =
@@ -263,10 +262,10 @@ module _ {M : Type 0} {g : Ghosts M} (rules : MachineRules) (state : M → List 
         within : cut < length bytes
         within = below cut (length bytes) rest.0
 
-        f : FeedsTo rules state x peer (piece bytes begin cut) now node first next
-        f = subst (λ u. WhenUp rules state node next u (first ≡ refused) (λ m. FeedsTo rules state m peer (piece bytes begin cut) now node first next)) here.up feeds
+        f : FeedsTo k x peer (piece bytes begin cut) now node first next
+        f = subst (λ u. WhenUp k node next u (first ≡ refused) (λ m. FeedsTo k m peer (piece bytes begin cut) now node first next)) here.up feeds
 
-        part : FeedsPart rules (StandsFor rules) (of x) (of f.mid) peer now (piece bytes begin cut) f.outcomes f.met f.used
+        part : FeedsPart k.rules (StandsFor k.rules) (of x) (of f.mid) peer now (piece bytes begin cut) f.outcomes f.met f.used
         part =
             let behind = length-drop cut bytes in
             f.fed.part frame (drop cut bytes) (still_going x (take begin bytes) here.along) (sound x (take begin bytes) here.along) fits (omega (arith, within, behind))

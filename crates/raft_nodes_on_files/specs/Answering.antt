@@ -1,10 +1,6 @@
--- What a node on files answers, in a cluster's words.
+-- What a node over a log answers, in a cluster's words.
 use Rattle.std.specs.Prelude.{List, [], Option, Some, None, map}
-use Rattle.raft_cluster_events.specs.declared.event.CrashChoice.{CrashChoice}
-use Rattle.raft_cluster_events.specs.declared.event.CrashChoice.TheVariants as choice
 use Rattle.raft_cluster_events.specs.declared.node.NodeOutcome.{NodeOutcome}
-use Rattle.raft_cluster_events.specs.declared.outcome.CrashRefusal.{CrashRefusal}
-use Rattle.raft_cluster_events.specs.declared.outcome.CrashRefusal.TheVariants as crash_refusal
 use Rattle.raft_cluster_events.specs.declared.outcome.NodeError.{NodeError}
 use Rattle.raft_cluster_events.specs.declared.outcome.NodeError.TheVariants as error
 use Rattle.raft_cluster_events.specs.declared.outcome.NodeRefusal.TheVariants as refusal
@@ -12,13 +8,6 @@ use Rattle.raft_cluster_events.specs.declared.outcome.Stop.{Stop}
 use Rattle.raft_cluster_events.specs.declared.outcome.StopCause.{StopCause}
 use Rattle.raft_cluster_events.specs.declared.outcome.StopCause.TheVariants as stop_cause
 use Rattle.raft_framed_groups.specs.declared.frames.GroupFrame.{GroupFrame}
-use Rattle.raft_log_disk.specs.declared.crash.CrashChoice.{CrashChoice as FileChoice}
-use Rattle.raft_log_disk.specs.declared.crash.CrashChoice.TheVariants as file_choice
-use Rattle.raft_log_disk.specs.declared.crash.CrashRefusal.{CrashRefusal as FileRefusal}
-use Rattle.raft_log_disk.specs.declared.crash.CrashRefusal.TheVariants as file_refusal
-use Rattle.raft_log_engine.specs.declared.fault.EngineFault.{EngineFault}
-use Rattle.raft_log_engine.specs.declared.fault.EngineFault.TheVariants as engine_fault
-use Rattle.raft_log_files.specs.declared.error.Error.TheVariants as log_error
 use Rattle.raft_machines.specs.declared.telling.UnknownTokens.{UnknownTokens}
 use Rattle.raft_node.specs.declared.outcome.Outcome.{Outcome}
 use Rattle.raft_node_faults.specs.declared.fault.Cause.{Cause}
@@ -42,68 +31,53 @@ node_outcome o = record { group = o.group; frames = map node_frame o.frames.item
 
 -- ---- why it stopped
 
-abbrev pub cause_of_log : EngineFault → StopCause
-cause_of_log (engine_fault.Log (log_error.Io met)) = stop_cause.Io
-cause_of_log (engine_fault.Log log_error.TryAgain) = stop_cause.TryAgain
-cause_of_log (engine_fault.Log log_error.Memory) = stop_cause.Memory
-cause_of_log other = stop_cause.Other
-
-abbrev pub cause_of_store : StoreFault EngineFault → StopCause
-cause_of_store (store_fault.Log met) = cause_of_log met
-cause_of_store (store_fault.Refused store_refusal.Memory) = stop_cause.Memory
-cause_of_store (store_fault.Refused store_refusal.TooLong) = stop_cause.TooLong
--- a machine's snapshot past the limit
-cause_of_store (store_fault.Refused (store_refusal.Value frame_fault.TooLong)) = stop_cause.TooLong
-cause_of_store (store_fault.Refused other) = stop_cause.Other
-
--- an event whose frame is too long has the machine's snapshot in it
-abbrev pub cause_of : Cause (StoreFault EngineFault) → StopCause
-cause_of cause.Memory = stop_cause.Memory
-cause_of cause.Unjudged = stop_cause.Memory
-cause_of (cause.Storage met) = cause_of_store met
-cause_of (cause.Frame frame_error.Memory) = stop_cause.Memory
-cause_of (cause.Frame other) = stop_cause.TooLong
-
--- all that waited is named, as it was
-abbrev pub stop_of : Cause (StoreFault EngineFault) → List UnknownTokens → Stop
-stop_of why unknown = record { cause = cause_of why; unsaid = None; unknown = unknown }
-
 -- a stop without a token that waited
 abbrev pub quiet_stop : StopCause → Stop
 quiet_stop why = record { cause = why; unsaid = None; unknown = [] }
 
--- ---- why it isn't done
+-- by the cause that a fault of its log is
+module _ {F : Type 0} (log_cause : F → StopCause) where
+  abbrev pub cause_of_store : StoreFault F → StopCause
+  cause_of_store (store_fault.Log met) = log_cause met
+  cause_of_store (store_fault.Refused store_refusal.Memory) = stop_cause.Memory
+  cause_of_store (store_fault.Refused store_refusal.TooLong) = stop_cause.TooLong
+  -- a machine's snapshot past the limit
+  cause_of_store (store_fault.Refused (store_refusal.Value frame_fault.TooLong)) = stop_cause.TooLong
+  cause_of_store (store_fault.Refused other) = stop_cause.Other
 
-abbrev pub error_of : Fault (StoreFault EngineFault) → NodeError
-error_of (fault.NotLeader leader) = error.Refused (refusal.NotLeader leader)
-error_of fault.UnknownGroup = error.Refused refusal.UnknownGroup
-error_of fault.GroupExists = error.Refused refusal.GroupExists
-error_of fault.NotAllowed = error.Refused refusal.NotAllowed
-error_of fault.NotVoter = error.Refused refusal.NotVoter
-error_of (fault.Membership why) = error.Refused (refusal.Membership why)
-error_of fault.VoterChange = error.Refused refusal.VoterChange
-error_of fault.InProgress = error.Refused refusal.InProgress
-error_of fault.CommandTooLong = error.Refused refusal.CommandTooLong
-error_of fault.NumberAtEnd = error.Refused refusal.NumberAtEnd
-error_of fault.Failed = error.Refused refusal.Failed
-error_of fault.WrongParty = error.Refused refusal.WrongParty
-error_of fault.TooMuchForBatch = error.Refused refusal.TooMuchForBatch
-error_of fault.BreaksCondition = error.Refused refusal.BreaksCondition
-error_of (fault.Frame why) = error.Refused refusal.Frame
-error_of (fault.Stopped why unknown) = error.Stopped (stop_of why unknown.items)
+  -- an event whose frame is too long has the machine's snapshot in it
+  abbrev pub cause_of : Cause (StoreFault F) → StopCause
+  cause_of cause.Memory = stop_cause.Memory
+  cause_of cause.Unjudged = stop_cause.Memory
+  cause_of (cause.Storage met) = cause_of_store met
+  cause_of (cause.Frame frame_error.Memory) = stop_cause.Memory
+  cause_of (cause.Frame other) = stop_cause.TooLong
 
--- the stop that a fault is; one that is none is a stop of another cause
-abbrev pub stop_in : Fault (StoreFault EngineFault) → Stop
-stop_in (fault.Stopped why unknown) = stop_of why unknown.items
-stop_in other = quiet_stop stop_cause.Other
+  -- all that waited is named, as it was
+  abbrev pub stop_of : Cause (StoreFault F) → List UnknownTokens → Stop
+  stop_of why unknown = record { cause = cause_of why; unsaid = None; unknown = unknown }
 
--- ---- how its files are left
+  -- ---- why it isn't done
 
-abbrev pub choice_in : CrashChoice → FileChoice
-choice_in choice.Least = file_choice.Least
-choice_in choice.Most = file_choice.Most
+  abbrev pub error_of : Fault (StoreFault F) → NodeError
+  error_of (fault.NotLeader leader) = error.Refused (refusal.NotLeader leader)
+  error_of fault.UnknownGroup = error.Refused refusal.UnknownGroup
+  error_of fault.GroupExists = error.Refused refusal.GroupExists
+  error_of fault.NotAllowed = error.Refused refusal.NotAllowed
+  error_of fault.NotVoter = error.Refused refusal.NotVoter
+  error_of (fault.Membership why) = error.Refused (refusal.Membership why)
+  error_of fault.VoterChange = error.Refused refusal.VoterChange
+  error_of fault.InProgress = error.Refused refusal.InProgress
+  error_of fault.CommandTooLong = error.Refused refusal.CommandTooLong
+  error_of fault.NumberAtEnd = error.Refused refusal.NumberAtEnd
+  error_of fault.Failed = error.Refused refusal.Failed
+  error_of fault.WrongParty = error.Refused refusal.WrongParty
+  error_of fault.TooMuchForBatch = error.Refused refusal.TooMuchForBatch
+  error_of fault.BreaksCondition = error.Refused refusal.BreaksCondition
+  error_of (fault.Frame why) = error.Refused refusal.Frame
+  error_of (fault.Stopped why unknown) = error.Stopped (stop_of why unknown.items)
 
-abbrev pub refusal_in : FileRefusal → CrashRefusal
-refusal_in file_refusal.NotAnImage = crash_refusal.NotAnImage
-refusal_in file_refusal.ByChance = crash_refusal.ByChance
-refusal_in file_refusal.Memory = crash_refusal.Memory
+  -- the stop that a fault is; one that is none is a stop of another cause
+  abbrev pub stop_in : Fault (StoreFault F) → Stop
+  stop_in (fault.Stopped why unknown) = stop_of why unknown.items
+  stop_in other = quiet_stop stop_cause.Other

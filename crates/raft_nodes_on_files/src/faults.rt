@@ -1,37 +1,24 @@
 //! What a node refuses, as a cluster keeps it.
 ghost use Rattle.std.specs.Prelude.{◌≡◌};
-ghost use Rattle.raft_nodes_on_files.specs.Answering.{cause_of, cause_of_log, cause_of_store, error_of, quiet_stop, stop_in, stop_of};
+ghost use Rattle.raft_nodes_on_files.specs.Answering.{cause_of, cause_of_store, error_of, quiet_stop, stop_in, stop_of};
 
+use crate::node_log::NodeLog;
 use raft_cluster_events::{NodeError, NodeRefusal, Sequence, Stop, StopCause};
-use raft_log_engine::EngineFault;
-use raft_log_files::Error;
 use raft_machines::UnknownTokens;
 use raft_node::{Cause, Fault};
 use raft_store::{StoreFault, StoreRefusal};
 use raft_wire::{FrameError, FrameFault};
 use std::alloc::Global;
 
-/// Why a node on files isn't done with a call.
-pub type NodeFault = Fault<StoreFault<EngineFault>>;
-
-/// Why its log stopped.
-pub fn cause_of_log(fault: EngineFault) -> StopCause
-    ensures { result ≡ cause_of_log fault }
-{
-    match fault {
-        EngineFault::Log(Error::Io(_)) => StopCause::Io,
-        EngineFault::Log(Error::TryAgain) => StopCause::TryAgain,
-        EngineFault::Log(Error::Memory) => StopCause::Memory,
-        _ => StopCause::Other,
-    }
-}
+/// Why a node isn't done with a call, over a log that fails so.
+pub type NodeFault<F> = Fault<StoreFault<F>>;
 
 // Why its store stopped.
-fn cause_of_store(fault: StoreFault<EngineFault>) -> StopCause
-    ensures { result ≡ cause_of_store fault }
+fn cause_of_store<L: NodeLog>(fault: StoreFault<L::Fault>) -> StopCause
+    ensures { result ≡ cause_of_store L.cause fault }
 {
     match fault {
-        StoreFault::Log(fault) => cause_of_log(fault),
+        StoreFault::Log(fault) => L::cause_of(fault),
         StoreFault::Refused(StoreRefusal::Memory) => StopCause::Memory,
         StoreFault::Refused(StoreRefusal::TooLong) => StopCause::TooLong,
         // A machine's snapshot past the limit.
@@ -41,22 +28,22 @@ fn cause_of_store(fault: StoreFault<EngineFault>) -> StopCause
 }
 
 // Why it stopped.
-fn cause_of(cause: Cause<StoreFault<EngineFault>>) -> StopCause
-    ensures { result ≡ cause_of cause }
+fn cause_of<L: NodeLog>(cause: Cause<StoreFault<L::Fault>>) -> StopCause
+    ensures { result ≡ cause_of L.cause cause }
 {
     match cause {
         Cause::Memory | Cause::Unjudged | Cause::Frame(FrameError::Memory) => StopCause::Memory,
-        Cause::Storage(fault) => cause_of_store(fault),
+        Cause::Storage(fault) => cause_of_store::<L>(fault),
         Cause::Frame(_) => StopCause::TooLong,
     }
 }
 
 // A stop, with the tokens that waited, which are handed over.
-fn stop_of(cause: Cause<StoreFault<EngineFault>>, unknown: Vec<UnknownTokens>) -> Stop
-    ensures { result ≡ stop_of cause unknown.items }
+fn stop_of<L: NodeLog>(cause: Cause<StoreFault<L::Fault>>, unknown: Vec<UnknownTokens>) -> Stop
+    ensures { result ≡ stop_of L.cause cause unknown.items }
 {
     Stop {
-        cause: cause_of(cause),
+        cause: cause_of::<L>(cause),
         unsaid: None,
         unknown: Sequence::from_vec(unknown),
     }
@@ -74,8 +61,8 @@ pub fn quiet_stop(alloc: Global, cause: StopCause) -> Stop
 }
 
 /// Why a call isn't done.
-pub fn error_of(fault: NodeFault) -> NodeError
-    ensures { result ≡ error_of fault }
+pub fn error_of<L: NodeLog>(fault: NodeFault<L::Fault>) -> NodeError
+    ensures { result ≡ error_of L.cause fault }
 {
     NodeError::Refused(match fault {
         Fault::NotLeader { leader } => NodeRefusal::NotLeader { leader },
@@ -93,16 +80,18 @@ pub fn error_of(fault: NodeFault) -> NodeError
         Fault::TooMuchForBatch => NodeRefusal::TooMuchForBatch,
         Fault::BreaksCondition => NodeRefusal::BreaksCondition,
         Fault::Frame(_) => NodeRefusal::Frame,
-        Fault::Stopped { cause, unknown } => return NodeError::Stopped(stop_of(cause, unknown)),
+        Fault::Stopped { cause, unknown } => {
+            return NodeError::Stopped(stop_of::<L>(cause, unknown));
+        }
     })
 }
 
 /// The stop that a fault is; one that is none is a stop of another cause.
-pub fn as_stop(alloc: Global, fault: NodeFault) -> Stop
-    ensures { result ≡ stop_in fault }
+pub fn as_stop<L: NodeLog>(alloc: Global, fault: NodeFault<L::Fault>) -> Stop
+    ensures { result ≡ stop_in L.cause fault }
 {
     match fault {
-        Fault::Stopped { cause, unknown } => stop_of(cause, unknown),
+        Fault::Stopped { cause, unknown } => stop_of::<L>(cause, unknown),
         _ => quiet_stop(alloc, StopCause::Other),
     }
 }

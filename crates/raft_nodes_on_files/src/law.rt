@@ -7,23 +7,35 @@ ghost use Rattle.raft_node_laws.specs.Law.{KeepsLaw};
 ghost use Rattle.raft_sent_frames.specs.Frames.{frames_of};
 
 use crate::file_node::FileNode;
+use crate::log_node::LogNode;
+use crate::node_log::NodeLog;
 use raft_cluster_events::{ClusterEvent, ClusterNode};
 use raft_listed_cluster::{ListedCluster, RoundRefusal};
+use raft_log_engine::MemoryLog;
 use raft_machines::StateMachine;
 use std::thread::Threads;
+
+/// A node over any log keeps the law that a cluster asks of its nodes: wherever it stands in a history,
+/// each of its calls, crashes and openings leads its groups on as the rules say, and it answers so.
+pub fn log_nodes_keep_the_law<M: StateMachine, L: NodeLog>()
+    ensures { KeepsLaw M.rules ⟦<LogNode<M, L> as ClusterNode>⟧.acts ⟦<LogNode<M, L> as ClusterNode>⟧.states }
+{}
 
 /// A node on files keeps the law that a cluster asks of its nodes: wherever it stands in a history,
 /// each of its calls, crashes and openings leads its groups on as the rules say, and it answers so.
 pub fn nodes_on_files_keep_the_law<M: StateMachine>()
     ensures { KeepsLaw M.rules ⟦<FileNode<M> as ClusterNode>⟧.acts ⟦<FileNode<M> as ClusterNode>⟧.states }
-{}
+{
+    log_nodes_keep_the_law::<M, MemoryLog>();
+}
 
 /// Runs events of a cluster of nodes on files in order, and says how many (own). Fewer than all only
 /// for want of memory before one. Behind them the list of each group that the cluster lends is the one
 /// of which the headline speaks, whichever of the states that its files may show each node is in: each
 /// node has applied a front of it, and what was told stands on it with the fold's answers. It only
 /// grows.
-pub fn run_on_files<M: StateMachine>(
+pub fn run_on_files<M: StateMachine, R: Threads + Sync>(
+    rt: &R,
     cluster: &mut ListedCluster<FileNode<M>>,
     events: Vec<ClusterEvent>,
 ) -> usize
@@ -33,7 +45,7 @@ pub fn run_on_files<M: StateMachine>(
     ensures grow { OnlyGrow (lists_of cluster.old.groups) (lists_of cluster.new.groups) }
 {
     nodes_on_files_keep_the_law::<M>();
-    cluster.run(events)
+    cluster.run(rt, events)
 }
 
 /// Runs the events of a round on threads, each for another node on files, and says how many happened

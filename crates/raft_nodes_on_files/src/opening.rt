@@ -1,81 +1,36 @@
-//! A node is opened with its files, and gives them back.
+//! Nodes on files: their opening, and files that are lent and handed back.
 ghost use Rattle.std.specs.Prelude.{◌≡◌, ◌⊎◌, IfErr, IfOk, false};
-ghost use Rattle.raft_content_log.specs.Leaving.{LeavesOnly};
-ghost use Rattle.raft_log_disk.specs.MemorySystem.{disk_in, meter_in};
+ghost use Rattle.raft_log_disk.specs.MemorySystem.{meter_in};
 ghost use Rattle.raft_log_engine.specs.Caused.{IsSyncFault};
 ghost use Rattle.raft_log_engine.specs.Closing.{handed_back};
-ghost use Rattle.raft_log_engine.specs.Left.{answers_on};
-ghost use Rattle.raft_log_engine.specs.Log.{leaves_of_log};
-ghost use Rattle.raft_nodes_on_files.specs.Acts.{AreHandedBack, IsFoundAs, IsLeftOpening, IsOpened, IsRefusedOpening};
-ghost use Rattle.raft_nodes_on_files.specs.Answering.{choice_in, quiet_stop, refusal_in};
+ghost use Rattle.raft_nodes_on_files.specs.OnFiles.{AreHandedBack, IsLeftOpening, IsOpened, IsRefusedOpening};
 
-use crate::faults::{as_stop, cause_of_log, quiet_stop};
-use raft_cluster_events::{CrashChoice, CrashRefusal, Stop, StopCause};
-use raft_log_disk::{CrashChoice as FileChoice, CrashRefusal as FileRefusal};
-use raft_log_engine::{LogFiles, MemoryLog, NotClosed, NotOpened as LogNotOpened};
+use crate::node_log::Unopened;
+use crate::over_log::open_over_log;
+use raft_log_engine::{LogFiles, MemoryLog, NotClosed};
 use raft_log_files::MemoryFileSystem;
 use raft_machines::StateMachine;
-use raft_node::{Node, NotOpened, Opened};
+use raft_node::{Node, Opened};
 use raft_store::Store;
 use std::alloc::Global;
+use std::thread::Threads;
 
-/// Where a node keeps its groups.
+/// Where a node on files keeps its groups.
 pub type Kept<M> = Store<M, MemoryLog>;
 
-/// Files that weren't opened, and why.
-#[derive(Drop)]
-pub struct Unopened {
-    pub stop: Stop,
-    pub files: LogFiles,
-}
-
-// The log over the files. They aren't opened where something in them passes by chance as a record.
-fn open_log(alloc: Global, files: LogFiles) -> Result<MemoryLog, Unopened>
-    ensures sound { IfOk result (λ l. l.has_failed ≡ false) }
-    ensures found { IfOk result (λ l. IsFoundAs files (answers_on disk_in l.engine)) }
-    ensures leaves { IfOk result (λ l. LeavesOnly (leaves_of_log disk_in l) (answers_on disk_in l.engine)) }
-    ensures err { IfErr result (λ u. IsRefusedOpening files u.stop u.files) }
-{
-    if let Err(why) = files.check_genuine() {
-        return Err(Unopened {
-            stop: quiet_stop(alloc, cause_of_refusal(why)),
-            files,
-        });
-    }
-    match MemoryLog::open(alloc, files) {
-        Ok(log) => Ok(log),
-        Err(LogNotOpened { fault, files }) => Err(Unopened {
-            stop: quiet_stop(alloc, cause_of_log(fault)),
-            files,
-        }),
-    }
-}
-
-// Why files that show by chance what nobody wrote aren't opened.
-fn cause_of_refusal(why: FileRefusal) -> StopCause {
-    match why {
-        FileRefusal::Memory => StopCause::Memory,
-        FileRefusal::ByChance | FileRefusal::NotAnImage => StopCause::Other,
-    }
-}
-
-/// A node with all groups that its files have.
-pub fn open_node<M: StateMachine>(
+/// A node with all groups that its files have, which so many workers read: 0 counts as 1, and there
+/// are no more than files or than 64.
+pub fn open_node<M: StateMachine, R: Threads + Sync>(
+    rt: &R,
     alloc: Global,
     id: u64,
     files: LogFiles,
-) -> Result<Opened<M, Kept<M>>, Unopened>
+    workers: u64,
+) -> Result<Opened<M, Kept<M>>, Unopened<LogFiles>>
     ensures ok { IfOk result (λ o. IsOpened M.rules M.state files id o.node o.outcomes.items) }
     ensures err { IfErr result (λ u. IsRefusedOpening files u.stop u.files ⊎ IsLeftOpening M.rules files id u.stop u.files) }
 {
-    let log = open_log(alloc, files)?;
-    match Node::open(alloc, id, Store::new(alloc, log)) {
-        Ok(opened) => Ok(opened),
-        Err(NotOpened { fault, storage }) => Err(Unopened {
-            stop: as_stop(alloc, fault),
-            files: storage.into_log().into_files(),
-        }),
-    }
+    open_over_log::<M, MemoryLog, R>(rt, alloc, id, files, workers)
 }
 
 /// The node's files, handed back in any case, once its log is closed (own: `close`): the last one is
@@ -105,25 +60,4 @@ pub fn abandon_node<M: StateMachine>(node: Node<M, Kept<M>>) -> LogFiles
     ensures shown { AreHandedBack M.rules M.state node result }
 {
     node.into_storage().into_log().into_files()
-}
-
-/// What a crash leaves, in the words of files.
-pub fn file_choice(choice: CrashChoice) -> FileChoice
-    ensures { result ≡ choice_in choice }
-{
-    match choice {
-        CrashChoice::Least => FileChoice::Least,
-        CrashChoice::Most => FileChoice::Most,
-    }
-}
-
-/// Why files don't crash so, in a cluster's words.
-pub fn crash_refusal(why: FileRefusal) -> CrashRefusal
-    ensures { result ≡ refusal_in why }
-{
-    match why {
-        FileRefusal::NotAnImage => CrashRefusal::NotAnImage,
-        FileRefusal::ByChance => CrashRefusal::ByChance,
-        FileRefusal::Memory => CrashRefusal::Memory,
-    }
 }

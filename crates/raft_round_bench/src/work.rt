@@ -70,16 +70,16 @@ fn take<R: Threads + Sync>(rt: &R, cluster: &mut Files, work: Work, events: Vec<
             let _ = cluster.run_round(rt, events);
         }
         Work::Alone => {
-            let _ = cluster.run(events);
+            let _ = cluster.run(rt, events);
         }
     }
 }
 
 // Nodes of these ids, each of which leads its group.
-fn leaders(alloc: Global, ids: &[u64]) -> Result<Files, AllocError> {
+fn leaders<R: Threads + Sync>(rt: &R, alloc: Global, ids: &[u64]) -> Result<Files, AllocError> {
     let settings = log_settings(alloc, "raft", 131_072, 1_048_576)?;
-    let mut cluster = Cluster::new(alloc, ids, &settings)?;
-    let _ = cluster.run(beginning(alloc, ids)?);
+    let mut cluster = Cluster::new(rt, alloc, ids, &settings)?;
+    let _ = cluster.run(rt, beginning(alloc, ids)?);
     Ok(cluster)
 }
 
@@ -99,7 +99,7 @@ pub fn run<R: Threads + Sync>(rt: &R, alloc: Global, task: Task) -> Result<usize
         ids.push(node)?;
     }
     let command = Vec::from_elem(alloc, 7u8, task.len)?;
-    let mut cluster = leaders(alloc, &ids)?;
+    let mut cluster = leaders(rt, alloc, &ids)?;
     for now in 0..task.rounds {
         let events = round_of(alloc, &ids, &command, now)?;
         take(rt, &mut cluster, task.work, events);

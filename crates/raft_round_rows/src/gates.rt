@@ -99,7 +99,12 @@ impl ClusterNode for GateNode {
       spells = λ group message bytes. Unit {0};
     } };
 
-    fn begin(alloc: Global, id: u64, settings: &Gate) -> Result<Self, AllocError> {
+    fn begin<R: Threads + Sync>(
+        _rt: &R,
+        alloc: Global,
+        id: u64,
+        settings: &Gate,
+    ) -> Result<Self, AllocError> {
         let engine = opened(alloc, GateFiles::new(alloc, settings.again()?))?;
         Ok(GateNode {
             alloc,
@@ -165,7 +170,11 @@ impl ClusterNode for GateNode {
         Err(CrashRefusal::Memory)
     }
 
-    fn reopen(&mut self, _workers: u64) -> Result<Sequence<NodeOutcome>, Stop> {
+    fn reopen<R: Threads + Sync>(
+        &mut self,
+        _rt: &R,
+        _workers: u64,
+    ) -> Result<Sequence<NodeOutcome>, Stop> {
         self.is_up = true;
         Ok(Sequence::new(self.alloc))
     }
@@ -189,9 +198,13 @@ impl ClusterNode for GateNode {
 
 // Two nodes whose next writes look so often for another one. Their openings wrote before the gate was
 // shut.
-fn cluster(alloc: Global, turns: u64) -> Result<Cluster<GateNode>, AllocError> {
+fn cluster<R: Threads + Sync>(
+    rt: &R,
+    alloc: Global,
+    turns: u64,
+) -> Result<Cluster<GateNode>, AllocError> {
     let gate = Gate::new(alloc, turns)?;
-    let cluster = Cluster::new(alloc, &[1, 2], &gate)?;
+    let cluster = Cluster::new(rt, alloc, &[1, 2], &gate)?;
     gate.shut();
     Ok(cluster)
 }
@@ -228,14 +241,14 @@ fn crash(alloc: Global) -> Result<Vec<ClusterEvent>, AllocError> {
 /// What becomes of two writes in a round, and of the same ones after another; and of a crash that finds
 /// no memory.
 pub fn gate_rows<R: Threads + Sync>(rt: &R, alloc: Global) -> Result<String, AllocError> {
-    let mut rounds = cluster(alloc, TURNS)?;
+    let mut rounds = cluster(rt, alloc, TURNS)?;
     let _ = rounds.run_round(rt, events(alloc)?);
     let met = words(alloc, &rounds)?;
-    let mut alone = cluster(alloc, FEW_TURNS)?;
-    let _ = alone.run(events(alloc)?);
+    let mut alone = cluster(rt, alloc, FEW_TURNS)?;
+    let _ = alone.run(rt, events(alloc)?);
     let one = words(alloc, &alone)?;
     let ran = rounds.run_round(rt, crash(alloc)?).unwrap_or(9);
-    let ran_alone = alone.run(crash(alloc)?);
+    let ran_alone = alone.run(rt, crash(alloc)?);
     let mut text = String::from_str(
         alloc,
         "== two file systems whose first writes wait for each other\n",

@@ -25,7 +25,7 @@ fn answer<R: Threads + Sync>(
     line: &str,
 ) -> Result<String, AllocError> {
     if let Some(name) = line.strip_prefix("== ") {
-        *pair = Pair::new(alloc)?;
+        *pair = Pair::new(rt, alloc)?;
         return format!(in alloc; "== {name}");
     }
     match line.strip_prefix("random ") {
@@ -37,7 +37,7 @@ fn answer<R: Threads + Sync>(
 fn main(rt: HostRuntime) -> io::Result<()> {
     let mut input = String::new(rt.alloc());
     rt.stdin().read_to_string(&mut input)?;
-    let mut pair = Pair::new(rt.alloc())?;
+    let mut pair = Pair::new(&rt, rt.alloc())?;
     for line in input.lines() {
         println!(rt; "{}", answer(&rt, rt.alloc(), &mut pair, line)?)?;
     }

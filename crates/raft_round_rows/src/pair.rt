@@ -26,9 +26,9 @@ pub struct Pair {
     pub tick: u64,
 }
 
-fn cluster(alloc: Global) -> Result<Files, AllocError> {
+fn cluster<R: Threads + Sync>(rt: &R, alloc: Global) -> Result<Files, AllocError> {
     let settings = log_settings(alloc, "raft", 64, 256)?;
-    ListedCluster::new(alloc, &[1, 2, 3], &settings)
+    ListedCluster::new(rt, alloc, &[1, 2, 3], &settings)
 }
 
 /// The total of a group at a node.
@@ -41,11 +41,11 @@ fn total(alloc: Global, cluster: &Files, node: u64, group: u64) -> Result<String
 
 impl Pair {
     /// Three nodes each that have nothing.
-    pub fn new(alloc: Global) -> Result<Pair, AllocError> {
+    pub fn new<R: Threads + Sync>(rt: &R, alloc: Global) -> Result<Pair, AllocError> {
         Ok(Pair {
             alloc,
-            rounds: cluster(alloc)?,
-            alone: cluster(alloc)?,
+            rounds: cluster(rt, alloc)?,
+            alone: cluster(rt, alloc)?,
             tokens: 0,
             tick: 0,
         })
@@ -154,7 +154,7 @@ impl Pair {
         let at = self.rounds.history().len();
         match run_round_on_files(rt, &mut self.rounds, events) {
             Ok(count) => {
-                if run_on_files(&mut self.alone, same) == count {
+                if run_on_files(rt, &mut self.alone, same) == count {
                     self.outcomes(at)
                 } else {
                     String::from_str(self.alloc, "another number")

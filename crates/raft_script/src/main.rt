@@ -12,7 +12,8 @@ fn main(rt: HostRuntime) -> ExitCode {
     let Ok(settings) = log_settings(alloc, "raft", 64, 256) else {
         return ExitCode::from(ScriptEnd::Memory.status());
     };
-    let end = run_script::<FileNode<AddingMachine>, _, _>(
+    let end = run_script::<FileNode<AddingMachine>, _, _, _>(
+        &rt,
         alloc,
         settings,
         &mut rt.stdin(),

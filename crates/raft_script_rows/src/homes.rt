@@ -6,6 +6,7 @@ use raft_node_script::{HomeRefusal, NodeHome};
 use raft_nodes_on_files::log_settings;
 use raft_store::Store;
 use std::alloc::Global;
+use std::thread::Threads;
 
 /// Where each opening finds nothing; but the first ones may be refused.
 #[derive(Drop)]
@@ -38,14 +39,14 @@ impl EmptyHome {
 impl NodeHome for EmptyHome {
     type Storage = Store<AddingMachine, MemoryLog>;
 
-    fn open(&mut self) -> Result<Self::Storage, HomeRefusal> {
+    fn open<R: Threads + Sync>(&mut self, rt: &R) -> Result<Self::Storage, HomeRefusal> {
         if let Some(why) = self.refusal() {
             return Err(why);
         }
         let Ok(settings) = log_settings(self.alloc, "raft", 64, 256) else {
             return Err(HomeRefusal::Memory);
         };
-        match MemoryLog::open(self.alloc, LogFiles::new(self.alloc, settings)) {
+        match MemoryLog::open_by_workers(rt, self.alloc, LogFiles::new(self.alloc, settings)) {
             Ok(log) => Ok(Store::new(self.alloc, log)),
             Err(_) => Err(HomeRefusal::Damaged),
         }

@@ -27,6 +27,7 @@ use raft_script_session::ScriptEnd;
 use sessions::{Runner, run_by};
 use std::alloc::{AllocError, Global};
 use std::io;
+use std::thread::Threads;
 
 /// A line of the input, and what runs its script.
 #[derive(Clone, Copy)]
@@ -69,41 +70,61 @@ fn print_end(rt: &impl Print, row: Row<'_>, end: ScriptEnd, written: &[u8]) -> i
     println!(rt; "{} -> {end:?} {status} {text:?}", row.line)
 }
 
-fn run(rt: &HostRuntime, row: Row<'_>, script: &[u8]) -> io::Result<()> {
+fn run<R: Print + Threads + Sync>(
+    rt: &R,
+    alloc: Global,
+    row: Row<'_>,
+    script: &[u8],
+) -> io::Result<()> {
     let mut reader = script;
-    let mut writer = Vec::new(rt.alloc());
-    let end = run_by(rt.alloc(), row.runner, &mut reader, &mut writer);
+    let mut writer = Vec::new(alloc);
+    let end = run_by(rt, alloc, row.runner, &mut reader, &mut writer);
     print_end(rt, row, end, writer.as_slice())
 }
 
-fn run_in_pieces(rt: &HostRuntime, row: Row<'_>, words: &str) -> io::Result<()> {
+fn run_in_pieces<R: Print + Threads + Sync>(
+    rt: &R,
+    alloc: Global,
+    row: Row<'_>,
+    words: &str,
+) -> io::Result<()> {
     let (piece, rest) = number_of(words);
     let (read, rest) = number_of(rest);
     let (room, text) = number_of(rest);
-    let script = bytes_of(rt.alloc(), text)?;
+    let script = bytes_of(alloc, text)?;
     let mut reader = Piecewise::new(script.as_slice(), piece, read);
-    let mut writer = Stubborn::new(rt.alloc(), piece, room);
-    let end = run_by(rt.alloc(), row.runner, &mut reader, &mut writer);
+    let mut writer = Stubborn::new(alloc, piece, room);
+    let end = run_by(rt, alloc, row.runner, &mut reader, &mut writer);
     print_end(rt, row, end, writer.written())
 }
 
-fn run_flushed(rt: &HostRuntime, row: Row<'_>, words: &str) -> io::Result<()> {
+fn run_flushed<R: Print + Threads + Sync>(
+    rt: &R,
+    alloc: Global,
+    row: Row<'_>,
+    words: &str,
+) -> io::Result<()> {
     let (piece, rest) = number_of(words);
     let (read, text) = number_of(rest);
-    let script = bytes_of(rt.alloc(), text)?;
+    let script = bytes_of(alloc, text)?;
     let mut reader = Piecewise::new(script.as_slice(), piece, read);
-    let mut writer = Flushed::new(rt.alloc());
-    let end = run_by(rt.alloc(), row.runner, &mut reader, &mut writer);
+    let mut writer = Flushed::new(alloc);
+    let end = run_by(rt, alloc, row.runner, &mut reader, &mut writer);
     print_end(rt, row, end, writer.written())
 }
 
-fn run_counted(rt: &HostRuntime, row: Row<'_>, words: &str) -> io::Result<()> {
+fn run_counted<R: Print + Threads + Sync>(
+    rt: &R,
+    alloc: Global,
+    row: Row<'_>,
+    words: &str,
+) -> io::Result<()> {
     let (piece, rest) = number_of(words);
     let (length, _) = number_of(rest);
-    let script = with_comment(rt.alloc(), length, &[])?;
+    let script = with_comment(alloc, length, &[])?;
     let mut reader = Piecewise::new(script.as_slice(), piece, usize::MAX);
-    let mut writer = Vec::new(rt.alloc());
-    let end = run_by(rt.alloc(), row.runner, &mut reader, &mut writer);
+    let mut writer = Vec::new(alloc);
+    let end = run_by(rt, alloc, row.runner, &mut reader, &mut writer);
     let (given, most) = (reader.given(), reader.most());
     println!(rt; "{} -> {end:?} {given} of at most {most}", row.line)
 }
@@ -121,21 +142,21 @@ fn runner_of(line: &str) -> (Runner, &str) {
     (Runner::Node { refusals }, text)
 }
 
-fn answer(rt: &HostRuntime, line: &str) -> io::Result<()> {
+fn answer<R: Print + Threads + Sync>(rt: &R, alloc: Global, line: &str) -> io::Result<()> {
     let (runner, text) = runner_of(line);
     let row = Row { line, runner };
     let (call, words) = text.split_once(' ').unwrap_or((text, ""));
     match call {
-        "run" => run(rt, row, bytes_of(rt.alloc(), words)?.as_slice()),
+        "run" => run(rt, alloc, row, bytes_of(alloc, words)?.as_slice()),
         "comment" => {
             let (length, text) = number_of(words);
-            let rest = bytes_of(rt.alloc(), text)?;
-            let script = with_comment(rt.alloc(), length, rest.as_slice())?;
-            run(rt, row, script.as_slice())
+            let rest = bytes_of(alloc, text)?;
+            let script = with_comment(alloc, length, rest.as_slice())?;
+            run(rt, alloc, row, script.as_slice())
         }
-        "pieces" => run_in_pieces(rt, row, words),
-        "flushes" => run_flushed(rt, row, words),
-        "reads" => run_counted(rt, row, words),
+        "pieces" => run_in_pieces(rt, alloc, row, words),
+        "flushes" => run_flushed(rt, alloc, row, words),
+        "reads" => run_counted(rt, alloc, row, words),
         "status" => println!(rt; "{line} -> {}", ScriptEnd::Memory.status()),
         _ => println!(rt; "{line} -> no row"),
     }
@@ -143,7 +164,7 @@ fn answer(rt: &HostRuntime, line: &str) -> io::Result<()> {
 
 fn main(rt: HostRuntime) -> io::Result<()> {
     for line in rt.lines(rt.alloc()) {
-        answer(&rt, line?.as_str())?;
+        answer(&rt, rt.alloc(), line?.as_str())?;
     }
     Ok(())
 }

@@ -7,6 +7,7 @@ use raft_nodes_on_files::{FileNode, log_settings};
 use raft_script_session::{LineRunner, ScriptEnd, run_lines};
 use std::alloc::{AllocError, Global};
 use std::io::{Read, Write};
+use std::thread::Threads;
 
 /// What runs a script's lines.
 #[derive(Clone, Copy)]
@@ -28,7 +29,11 @@ struct Lengths {
 impl LineRunner for Lengths {
     ghost runs = { λ old line text new. Unit {0} };
 
-    fn run_line(&mut self, line: &[u8]) -> Result<Option<String>, AllocError> {
+    fn run_line<R: Threads + Sync>(
+        &mut self,
+        _rt: &R,
+        line: &[u8],
+    ) -> Result<Option<String>, AllocError> {
         match line {
             b"!" => Ok(None),
             b"?" => Err(AllocError),
@@ -38,7 +43,8 @@ impl LineRunner for Lengths {
 }
 
 /// Runs the script that the reader gives.
-pub fn run_by<R: Read, W: Write>(
+pub fn run_by<R: Read, W: Write, T: Threads + Sync>(
+    rt: &T,
     alloc: Global,
     runner: Runner,
     reader: &mut R,
@@ -47,14 +53,14 @@ pub fn run_by<R: Read, W: Write>(
     match runner {
         Runner::Nodes => match log_settings(alloc, "raft", 64, 256) {
             Ok(settings) => {
-                run_script::<FileNode<AddingMachine>, _, _>(alloc, settings, reader, writer)
+                run_script::<FileNode<AddingMachine>, _, _, _>(rt, alloc, settings, reader, writer)
             }
             Err(_) => ScriptEnd::Memory,
         },
         Runner::Node { refusals } => {
             let home = EmptyHome::new(alloc, refusals);
-            run_node_script(alloc, 1, home, reader, writer)
+            run_node_script(rt, alloc, 1, home, reader, writer)
         }
-        Runner::Lengths => run_lines(alloc, &mut Lengths { alloc }, reader, writer),
+        Runner::Lengths => run_lines(rt, alloc, &mut Lengths { alloc }, reader, writer),
     }
 }

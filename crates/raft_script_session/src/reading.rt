@@ -10,6 +10,7 @@ use raft_script_lines::LONGEST_LINE;
 use std::alloc::Global;
 use std::io::Write;
 use std::marker::Model;
+use std::thread::Threads;
 
 const NEWLINE: u8 = b'\n';
 
@@ -42,8 +43,9 @@ impl Reading {
     }
 
     /// Runs the open line and writes its answer.
-    fn end_line<S: LineRunner, W: Write>(
+    fn end_line<S: LineRunner, W: Write, R: Threads + Sync>(
         &mut self,
+        rt: &R,
         script: &mut S,
         writer: &mut W,
     ) -> Result<(), Stop>
@@ -54,6 +56,7 @@ impl Reading {
             script.old self.old.lines self.old.pending) }
     {
         answer_line(
+            rt,
             self.alloc,
             script,
             self.lines + 1,
@@ -91,8 +94,9 @@ impl Reading {
     }
 
     /// Takes in a byte, and answers the line that it ends.
-    fn take<S: LineRunner, W: Write>(
+    fn take<S: LineRunner, W: Write, R: Threads + Sync>(
         &mut self,
+        rt: &R,
         script: &mut S,
         byte: u8,
         writer: &mut W,
@@ -105,15 +109,16 @@ impl Reading {
             (W.contents writer.new) script.old self.old (byte ∷ [])) }
     {
         if byte == NEWLINE {
-            self.end_line(script, writer)
+            self.end_line(rt, script, writer)
         } else {
             self.keep(script, byte, writer)
         }
     }
 
     /// Takes in bytes, and answers each line that they end.
-    pub fn feed<S: LineRunner, W: Write>(
+    pub fn feed<S: LineRunner, W: Write, R: Threads + Sync>(
         &mut self,
+        rt: &R,
         script: &mut S,
         piece: &[u8],
         writer: &mut W,
@@ -126,14 +131,15 @@ impl Reading {
             (W.contents writer.new) script.old self.old piece.now) }
     {
         for byte in piece {
-            self.take(script, *byte, writer)?;
+            self.take(rt, script, *byte, writer)?;
         }
         Ok(())
     }
 
     /// The input is at its end: what is open is a line, if it isn't empty.
-    pub fn finish<S: LineRunner, W: Write>(
+    pub fn finish<S: LineRunner, W: Write, R: Threads + Sync>(
         &mut self,
+        rt: &R,
         script: &mut S,
         writer: &mut W,
     ) -> Result<(), Stop>
@@ -147,12 +153,13 @@ impl Reading {
         if self.pending.is_empty() {
             return Ok(());
         }
-        self.end_line(script, writer)
+        self.end_line(rt, script, writer)
     }
 }
 
 /// Runs the line with this number and writes its answer.
-fn answer_line<S: LineRunner, W: Write>(
+fn answer_line<S: LineRunner, W: Write, R: Threads + Sync>(
+    rt: &R,
     alloc: Global,
     script: &mut S,
     number: u64,
@@ -164,7 +171,7 @@ fn answer_line<S: LineRunner, W: Write>(
     ensures err { (count : ℕ) → number ≡ count + 1 → IfErr result (StopsAt S.runs
         (W.contents writer.old) (W.contents writer.new) script.old count line.now) }
 {
-    match script.run_line(line) {
+    match script.run_line(rt, line) {
         Ok(Some(text)) => write_out(writer, text.as_bytes()),
         Ok(None) => Err(refuse_line(alloc, number, writer)),
         Err(_) => Err(Stop::Memory),

@@ -9,6 +9,7 @@ use crate::reading::Reading;
 use crate::runner::LineRunner;
 use std::alloc::Global;
 use std::io::{ErrorKind, Read, Write};
+use std::thread::Threads;
 
 /// The most bytes of one read.
 const READ_BYTES: usize = 65_536;
@@ -18,7 +19,8 @@ const MOST_READS: u64 = 1 << 40;
 
 /// Runs the lines that the reader gives, and writes their answers: each line's before the next read
 /// waits (own). A read that was interrupted is tried again, and so is a write.
-pub fn run_lines<S: LineRunner, R: Read, W: Write>(
+pub fn run_lines<S: LineRunner, R: Read, W: Write, T: Threads + Sync>(
+    rt: &T,
     alloc: Global,
     script: &mut S,
     reader: &mut R,
@@ -27,7 +29,7 @@ pub fn run_lines<S: LineRunner, R: Read, W: Write>(
     ensures { IfSome (R.remaining reader.old) (λ input. Answers S.runs script.old input
         (W.contents writer.old) (W.contents writer.new) script.new result) }
 {
-    end_of(read_lines(alloc, script, reader, writer))
+    end_of(read_lines(rt, alloc, script, reader, writer))
 }
 
 fn end_of(run: Result<(), Stop>) -> ScriptEnd
@@ -42,7 +44,8 @@ fn end_of(run: Result<(), Stop>) -> ScriptEnd
 }
 
 /// Makes room for a read, and runs the script.
-fn read_lines<S: LineRunner, R: Read, W: Write>(
+fn read_lines<S: LineRunner, R: Read, W: Write, T: Threads + Sync>(
+    rt: &T,
     alloc: Global,
     script: &mut S,
     reader: &mut R,
@@ -57,11 +60,12 @@ fn read_lines<S: LineRunner, R: Read, W: Write>(
         return Err(Stop::Memory);
     };
     let mut reading = Reading::new(alloc);
-    read_all(script, &mut reading, &mut buffer, reader, writer)
+    read_all(rt, script, &mut reading, &mut buffer, reader, writer)
 }
 
 /// Reads to the end of the input, and runs its lines.
-fn read_all<S: LineRunner, R: Read, W: Write>(
+fn read_all<S: LineRunner, R: Read, W: Write, T: Threads + Sync>(
+    rt: &T,
     script: &mut S,
     reading: &mut Reading,
     buffer: &mut [u8],
@@ -78,8 +82,8 @@ fn read_all<S: LineRunner, R: Read, W: Write>(
 {
     for _ in 0..MOST_READS {
         match reader.read(buffer) {
-            Ok(0) => return reading.finish(script, writer),
-            Ok(n) => reading.feed(script, &buffer[..n], writer)?,
+            Ok(0) => return reading.finish(rt, script, writer),
+            Ok(n) => reading.feed(rt, script, &buffer[..n], writer)?,
             Err(e) => {
                 if e.kind() != ErrorKind::Interrupted {
                     return Err(Stop::Fault);

@@ -1,7 +1,8 @@
 -- No group is told where all is cleaned, or the rewrite queue is written anew, and no append file goes then.
-use Rattle.std.proofs.Common.{subst, sym}
+use Rattle.std.proofs.Common.{◌≡◌, ap, subst, sym, ◌∙◌}
 use Rattle.std.specs.List.Sorted.{IsStrictlySortedBy}
 use Rattle.std.specs.Ordering.{nat_cmp}
+use Rattle.raft_log_cleaning.specs.declared.due.Due.{Due}
 use Rattle.raft_log_cleaning.proofs.cleaning.clean.Goals as goal
 
 pub returns-in-Ok-clause-rising : goal.returns-in-Ok-clause-rising
@@ -14,3 +15,8 @@ returns-in-Ok-write_anew-clause-rising g c = subst (IsStrictlySortedBy nat_cmp) 
 
 pub returns-in-Ok-write_anew-clause-barrier : goal.returns-in-Ok-write_anew-clause-barrier
 returns-in-Ok-write_anew-clause-barrier g c = c.in-Ok-write_anew.ensures.barrier c.args.barrier
+
+pub returns-in-Ok-purge_expired-clause-both_queues : goal.returns-in-Ok-purge_expired-clause-both_queues
+returns-in-Ok-purge_expired-clause-both_queues g c = λ due is rewrites.
+    let same : c.in-Expired.due ≡ due = cc in
+    c.in-Ok-purge_expired.ensures.anew (ap (λ (d : Due). d.rewrites) same ∙ rewrites)

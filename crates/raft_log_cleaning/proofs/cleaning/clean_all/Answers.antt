@@ -3,6 +3,8 @@ use Rattle.std.proofs.Common.{◌≡◌, ◌⊎◌, ℕ, ◌+◌, ◌≤◌, sub
 use Rattle.std.specs.Prelude.{IfOk, IfSome}
 use Rattle.raft_log_disk.proofs.RefusalLemmas.{no_more_then}
 use Rattle.raft_log_pipe.specs.Pipe.{first_of}
+use Rattle.raft_log_traces.specs.GroupTraces.{traces_in}
+use Rattle.raft_log_cleaner.proofs.Calls.{goes_then}
 use Rattle.raft_log_cleaner.proofs.Stood.{err_stands, ok_both, refused_stands}
 use Rattle.raft_log_cleaner.proofs.Going.{when_ok}
 use Rattle.raft_log_cleaning.proofs.cleaning.clean_all.Goals as goal
@@ -19,6 +21,7 @@ returns-in-Err g c =
       both = tt;
       stands = λ content can. refused_stands d e c.args.pipes.now c.must_rewrite_append_queue.new.pipes content (c.in-Err.ensures.cleans.err content can) c.in-Err.ensures.left;
       barrier = tt;
+      gone = tt;
       count = tt;
       later = c.in-Err.ensures.later;
     }
@@ -41,6 +44,7 @@ returns g c =
       both = ok_both c.purge_append_files.result d e f p q r rewritten.kept went.both;
       stands = err_stands c.purge_append_files.result d e f p q r c.args.log.now c.must_rewrite_append_queue.new.log rewritten.kept (λ content can. rewritten.cleans.ok content can) went.stands;
       barrier = when_ok c.purge_append_files.result (subst (λ (n : ℕ). IfSome c.args.barrier (λ file. (first_of r.append ≡ n) ⊎ (first_of r.append ≤ file))) rewritten.kept.first went.barrier);
+      gone = goes_then c.purge_append_files.result (traces_in c.must_rewrite_append_queue.new.log.traces) c.args.barrier p.append q.append r.append rewritten.kept.first went.gone;
       count = subst (λ (n : ℕ). IfOk c.purge_append_files.result (λ m. n + m ≡ first_of r.append)) rewritten.kept.first went.count;
       later = no_more_then rewritten.later went.later;
     }

@@ -21,6 +21,7 @@ returns-in_err-purge_to-clause-lets_go g c =
     record {
       ok = λ content h. none_ok _ _ c.from_residual.result c.from_residual.ensures.1;
       err = λ content h. when_err c.from_residual.result (rest_leaves d e p q c.args.log.now c.args.next content h other q refl (call.bound.1 h.stands.span.0) (call.holds (h.stands.old ++ h.stands.new) [] (holds_all d e p q c.args.log.now c.args.next content h other)));
+      append = other;
       kept = none_ok _ _ c.from_residual.result c.from_residual.ensures.1;
       left = λ content h. when_err c.from_residual.result (go_refused d e p q c.args.log.now c.args.next content h other (met.is_named c.args.files.now) (met.is_named c.purge_to.new.files) call.pipe call.same call.rest call.keeps c.in_err-purge_to.ensures.set.1 call.paths (call.bound.1 h.stands.span.0) call.stands);
     }
@@ -36,6 +37,7 @@ returns-clause-lets_go g c =
     record {
       ok = λ content h. files_gone d e p q c.args.log.now c.args.next content h other call.pipe call.same call.rest call.ok.0 call.holds;
       err = λ content h. tt;
+      append = other;
       kept = record {
         append = pipe_as_before p.append q.append d e other;
         rewrite = record { set = c.in_ok-purge_to.ensures.set.1; paths = call.paths; alone = call.alone };

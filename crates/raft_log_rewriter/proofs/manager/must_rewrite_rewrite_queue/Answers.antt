@@ -1,5 +1,5 @@
 -- A file is begun, groups are written, and old files go.
-use Rattle.std.proofs.Common.{ℕ, ◌+◌, List, sym, subst}
+use Rattle.std.proofs.Common.{ℕ, ◌+◌, List, sym, subst, ◌∙◌}
 use Rattle.raft_log_disk.proofs.RefusalLemmas.{no_more_then}
 use Rattle.raft_log_memtables.specs.Content.{Content}
 use Rattle.raft_log_cleaner.proofs.Going.{none_ok, when_err}
@@ -22,6 +22,7 @@ returns-in_err-next g c =
         err = λ content can. when_err c.from_residual.result (begins.err content can);
       };
       gone = none_ok _ _ c.from_residual.result c.from_residual.ensures.1;
+      append = begins.append.same;
       kept = none_ok _ _ c.from_residual.result c.from_residual.ensures.1;
       left = when_err c.from_residual.result (λ content can. refused_stands d e p q content (begins.err content can) (begins.left content can));
       later = c.in_err-next.ensures.later;
@@ -46,6 +47,7 @@ returns-in_err-rewrite_groups g c =
         err = λ content can. when_err c.from_residual-in_err-rewrite_groups.result (writes.err content (begins.ok content can));
       };
       gone = none_ok _ _ c.from_residual-in_err-rewrite_groups.result c.from_residual-in_err-rewrite_groups.ensures.1;
+      append = writes.append.same ∙ begins.append.same;
       kept = none_ok _ _ c.from_residual-in_err-rewrite_groups.result c.from_residual-in_err-rewrite_groups.ensures.1;
       left = when_err c.from_residual-in_err-rewrite_groups.result
           (λ content can. refused_stands d f p r content (writes.err content (begins.ok content can)) (pipes_then_left d e f p q r begins.kept (writes.left content (begins.ok content can))));
@@ -81,6 +83,7 @@ returns g c =
         err = λ content can. goes.err content (all content can);
       };
       gone = ok_is c.let_old_go.result _ c.in_ok-next.next (p.rewrite.active.seq + 1) c.in_ok-next.ensures.next c.let_old_go.ensures.gone;
+      append = goes.append.same ∙ writes.append.same ∙ begins.append.same;
       kept = ok_then c.let_old_go.result d f h p r t (pipes_then d e f p q r begins.kept writes.kept) goes.kept;
       left = err_stands c.let_old_go.result d f h p r t c.args.log.now (pipes_then d e f p q r begins.kept writes.kept) (λ content can. goes.left content (all content can));
       later = no_more_then (no_more_then c.in_ok-next.ensures.later c.in_ok-rewrite_groups.ensures.later) c.let_old_go.ensures.later;

@@ -25,6 +25,9 @@ returns-clause-barrier g c =
     let call = c.let_go.ensures.call in
     none_from (g.F.FileSystem.disk c.args.files.now) (g.F.FileSystem.disk c.let_go.new.files) c.args.pipes.now c.let_go.new.pipes c.args.log.now c.requires.0 c.requires.1 call.0 c.let_go.result c.args.barrier call.1 call.2
 
+pub returns-clause-gone : goal.returns-clause-gone
+returns-clause-gone g c = c.let_go.ensures.gone
+
 pub returns-clause-count : goal.returns-clause-count
 returns-clause-count g c = counted c.let_go.result c.let_go.ensures.call.0 c.args.pipes.now.append c.let_go.new.pipes.append c.let_go.ensures.call.2.ok
 

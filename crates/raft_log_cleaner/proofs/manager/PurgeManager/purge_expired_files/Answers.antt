@@ -18,6 +18,9 @@ returns-in_default-clause-both g c =
 pub returns-in_default-clause-barrier : goal.returns-in_default-clause-barrier
 returns-in_default-clause-barrier g c = barrier_same c.args.barrier c.args.pipes.now c.args.pipes.now refl
 
+pub returns-in_default-clause-gone : goal.returns-in_default-clause-gone
+returns-in_default-clause-gone g c = λ large. absurd (c.in_default.ensures.none large)
+
 pub returns-in_default-clause-rising : goal.returns-in_default-clause-rising
 unfolding IsStrictlySortedBy
 returns-in_default-clause-rising g c = subst (IsStrictlySortedBy nat_cmp) (sym c.new.ensures.items) tt

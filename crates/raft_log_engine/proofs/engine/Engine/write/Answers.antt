@@ -137,7 +137,7 @@ invariant_of-self-2 g c =
       marked = c.in_default.ensures.marked;
       parted = c.in_default.ensures.parted;
     } in
-    λ goes_on. done_blocks (g.F.FileSystem.disk) (parts c.self.inside.files c.self.inside.pipes c.self.inside.traced.tables c.self.inside.is_stopped c.self.inside.wrote_unsynced c.self.inside.blocks.reads) c.append_batch.new.files c.append_batch.new.pipes c.apply.new.traced.tables c.args.sync c.prepare.new.batch.items c.in-Ok.written c.entries_block-block.result c.drain-items.result done c.self.inside.traced.traces c.apply.new.traced.traces c.self.inside.traced.has_marked c.apply.new.traced.has_marked c.self.inside.traced.is_parted c.apply.new.traced.is_parted c.self.inside.blocks (c.self.invariant c.if-self.false) noted c.skips_sync-self-inside.result c.skips_sync-self-inside.ensures.none
+    λ goes_on. done_blocks (g.F.FileSystem.disk) (parts c.self.inside.files c.self.inside.pipes c.self.inside.traced.tables c.self.inside.is_stopped c.self.inside.wrote_unsynced c.self.inside.blocks.reads) c.append_batch.new.files c.append_batch.new.pipes c.apply.new.traced.tables c.args.sync c.prepare.new.batch.items c.in-Ok.written c.entries_block-block.result c.drain-items.result done c.self.inside.traced.traces c.apply.new.traced.traces c.self.inside.traced.has_marked c.apply.new.traced.has_marked c.self.inside.traced.is_parted c.apply.new.traced.is_parted c.self.inside.traced.written c.apply.new.traced.written c.self.inside.blocks (c.self.invariant c.if-self.false) noted c.skips_sync-self-inside.result c.skips_sync-self-inside.ensures.none
 
 pub returns-clause-answers : goal.returns-clause-answers
 returns-clause-answers g c =

@@ -25,6 +25,9 @@ returns-clause-placed c = λ rewrites appends has of_rewrite of_append rise unma
 pub returns-clause-marked : goal.returns-clause-marked
 returns-clause-marked c = λ placed has. has.marked
 
+pub returns-clause-written : goal.returns-clause-written
+returns-clause-written c = λ placed has. has.written
+
 pub returns-clause-unmarked : goal.returns-clause-unmarked
 returns-clause-unmarked c = λ rewrites appends has of_append none. all_unmarked rewrites appends of_append (sym has.marked ∙ none)
 

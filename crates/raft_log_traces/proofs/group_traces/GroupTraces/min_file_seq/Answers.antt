@@ -4,4 +4,7 @@ use Rattle.raft_log_traces.proofs.group_traces.GroupTraces.min_file_seq.Goals as
 
 pub returns : goal.returns
 unfolding traces_in
-returns c = each_kept c.args.self.now.traces c.least_of_traces.result c.least_of_traces.ensures
+returns c = record {
+  kept = each_kept c.args.self.now.traces c.least_of_traces.result c.least_of_traces.ensures.kept;
+  least = λ n h. c.least_of_traces.ensures.least n h;
+}

@@ -1,0 +1,37 @@
+use Rattle.std.proofs.Common.{refl, subst, sym}
+use Rattle.raft_log_disk.specs.MemorySystem.{disk_in}
+use Rattle.raft_log_engine.specs.Log.{IsFoundBy}
+use Rattle.raft_log_engine.specs.declared.memory.LogFiles.{LogFiles}
+use Rattle.raft_node_joint.specs.Reopening.{NamesNobody}
+use Rattle.raft_node_laws.specs.Saying.{names_of}
+use Rattle.raft_nodes_on_files.specs.Files.{IsFoundAs}
+use Rattle.raft_nodes_on_files.proofs.file_log.open_log.Goals as goal
+
+-- a refused opening leaves what it found
+pub returns-in-Err-open-clause-err : goal.returns-in-Err-open-clause-err
+returns-in-Err-open-clause-err g c =
+    let met = c.in-Err-open in
+    let made = c.unopened in
+    record {
+      named = subst (λ s. NamesNobody (names_of s)) (sym made.ensures.stop) (λ h. refl);
+      found = λ content f.
+          let here = subst (λ (files : LogFiles). IsFoundAs files content) made.ensures.files f in
+          record {
+            genuine = c.in_default.ensures.genuine;
+            found = met.ensures.reads content (subst (λ s. IsFoundBy s (disk_in met.refused.files.files) content) met.ensures.refused here.found);
+          };
+    }
+
+pub returns-in-Err-open_by_workers-clause-err : goal.returns-in-Err-open_by_workers-clause-err
+returns-in-Err-open_by_workers-clause-err g c =
+    let met = c.in-Err-open_by_workers in
+    let made = c.unopened-in-Err-open_by_workers in
+    record {
+      named = subst (λ s. NamesNobody (names_of s)) (sym made.ensures.stop) (λ h. refl);
+      found = λ content f.
+          let here = subst (λ (files : LogFiles). IsFoundAs files content) made.ensures.files f in
+          record {
+            genuine = c.in_default.ensures.genuine;
+            found = met.ensures.reads content (subst (λ s. IsFoundBy s (disk_in met.refused.files.files) content) met.ensures.refused here.found);
+          };
+    }

@@ -1,0 +1,63 @@
+-- A node on files: what its opening makes of them, and what it hands back.
+use Rattle.std.specs.Prelude.{◌≡◌, ℕ, false, List}
+use Rattle.raft_cluster_events.specs.declared.outcome.Stop.{Stop}
+use Rattle.raft_log_disk.specs.MemorySystem.{disk_in, is_bounded_in, meter_in}
+use Rattle.raft_log_disk.specs.declared.crash.CrashChoice.{CrashChoice as FileChoice}
+use Rattle.raft_log_disk.specs.declared.crash.CrashRefusal.{CrashRefusal as FileRefusal}
+use Rattle.raft_log_engine.specs.Left.{answers_on}
+use Rattle.raft_log_engine.specs.Log.{CantBeLeftSo, leaves_of_log}
+use Rattle.raft_log_engine.specs.Met.{Meets}
+use Rattle.raft_log_engine.specs.declared.fault.EngineFault.{EngineFault}
+use Rattle.raft_log_engine.specs.declared.memory.LogFiles.{LogFiles}
+use Rattle.raft_log_engine.specs.declared.memory.MemoryLog.{MemoryLog}
+use Rattle.raft_log_files.specs.declared.config.Config.{Config}
+use Rattle.raft_machines.specs.Machine.{MachineRules}
+use Rattle.raft_machines.specs.declared.machine.StateMachine.{Ghosts}
+use Rattle.raft_node.specs.declared.node.Node.{Node}
+use Rattle.raft_node.specs.declared.outcome.Outcome.{Outcome}
+use Rattle.raft_store.specs.declared.fault.StoreFault.{StoreFault}
+use Rattle.raft_store.specs.declared.store.Store.{Store}
+use Rattle.raft_nodes_on_files.specs.Acts as over
+use Rattle.raft_nodes_on_files.specs.Files.{IsFoundAs, cause_of_log, choice_in, refusal_in}
+use Rattle.raft_nodes_on_files.specs.Kinds.{NodeKind}
+use Rattle.raft_nodes_on_files.specs.Opening as opening
+
+-- one of this machine, over a log on files
+abbrev pub on_files : {M : Type 0} → Ghosts M → MachineRules → (M → List ℕ) → NodeKind
+on_files {M = M} machine rules state = record {
+  Machine = M;
+  machine = machine;
+  rules = rules;
+  state = state;
+  Log = MemoryLog;
+  Fault = EngineFault;
+  Files = LogFiles;
+  Settings = Config;
+  Choice = FileChoice;
+  Refusal = FileRefusal;
+  is_sound = λ l. l.has_failed ≡ false;
+  answers = λ l. answers_on disk_in l.engine;
+  leaves = λ l content. leaves_of_log disk_in l content;
+  meets = λ old new met. Meets is_bounded_in meter_in old new met;
+  refuses = λ l choice why. CantBeLeftSo choice why (disk_in l.engine.files);
+  found = λ files content. IsFoundAs files content;
+  cause = cause_of_log;
+  choice = choice_in;
+  refusal = refusal_in;
+}
+
+abbrev pub UpNode : (M : Type 0) → Ghosts M → Type 0
+UpNode M g = Node M (Store M MemoryLog EngineFault) (StoreFault EngineFault) g
+
+abbrev pub IsRefusedOpening : LogFiles → Stop → LogFiles → Type 0
+IsRefusedOpening old stop new = opening.IsRefusedOpening (λ files content. IsFoundAs files content) old stop new
+
+abbrev pub IsLeftOpening : MachineRules → LogFiles → ℕ → Stop → LogFiles → Type 0
+IsLeftOpening rules old id stop new = over.IsLeftOpening rules (λ files content. IsFoundAs files content) cause_of_log old id stop new
+
+module _ {M : Type 0} {g : Ghosts M} (rules : MachineRules) (state : M → List ℕ) where
+  abbrev pub IsOpened : LogFiles → ℕ → UpNode M g → List Outcome → Type 0
+  IsOpened files id n did = over.IsOpened (on_files g rules state) files id n did
+
+  abbrev pub AreHandedBack : UpNode M g → LogFiles → Type 0
+  AreHandedBack n files = over.AreHandedBack (on_files g rules state) n files
