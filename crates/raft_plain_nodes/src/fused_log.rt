@@ -5,10 +5,10 @@ ghost use Rattle.raft_plain_nodes.specs.Fuse.{left_behind, left_until};
 ghost use Rattle.raft_plain_nodes.specs.declared.fused_log.FusedFault.TheVariants.{Plain};
 ghost use Rattle.raft_content_log.specs.declared.plain_log.PlainFault.TheVariants.{Memory};
 
+use raft_cluster_events::CrashRefusal;
 use raft_content_log::{CleanLog, ContentLog, CrashLog, PlainFault, PlainLog};
 use raft_log_records::LogBatch;
 use std::alloc::{AllocError, Global};
-use std::convert::Infallible;
 use thiserror::Error;
 
 /// Why a log in memory with a fuse fails (own).
@@ -182,7 +182,8 @@ impl CrashLog for FusedLog {
     /// Whatever the choice, a crash keeps what is stored.
     type Choice = ();
 
-    type Refusal = Infallible;
+    /// None is ever answered.
+    type Refusal = CrashRefusal;
 
     ghost use Rattle.std.specs.Prelude.{◌≡◌};
 
@@ -190,7 +191,7 @@ impl CrashLog for FusedLog {
 
     ghost refuses = { λ log choice why. ⊥ };
 
-    fn crash(&mut self, _choice: &()) -> Result<(), Infallible> {
+    fn crash(&mut self, _choice: &()) -> Result<(), CrashRefusal> {
         Ok(())
     }
 

@@ -7,7 +7,6 @@ use raft_cluster_events::{CrashChoice, CrashRefusal, StopCause};
 use raft_content_log::{ContentLog, PlainFault};
 use raft_nodes_on_files::{NodeLog, Unopened, quiet_stop};
 use std::alloc::{AllocError, Global};
-use std::convert::Infallible;
 use std::thread::Threads;
 
 // Why a node stops at a fault of its log: a write that its fuse refused is told as a refused call of
@@ -41,7 +40,7 @@ impl NodeLog for FusedLog {
 
     ghost choice = { λ asked. tt };
 
-    ghost refusal = { λ why. elim why [ ] };
+    ghost refusal = { λ why. why };
 
     ghost crashed_left = { λ old new content same found. subst (λ (x : FusedLog). ⟦<FusedLog as ContentLog>⟧.leaves x content) same found.1 };
 
@@ -83,7 +82,7 @@ impl NodeLog for FusedLog {
 
     fn choice_of(_asked: CrashChoice) {}
 
-    fn refusal_of(why: Infallible) -> CrashRefusal {
-        match why {}
+    fn refusal_of(why: CrashRefusal) -> CrashRefusal {
+        why
     }
 }
