@@ -23,7 +23,7 @@ use raft_log_files::Config;
 use raft_machines::AddingMachine;
 use raft_nodes_on_files::{FileNode, log_settings};
 use raft_plain_nodes::PlainNode;
-use run_rows::run_rows;
+use run_rows::{rows_on_files, rows_on_plain_logs};
 use std::alloc::{AllocError, Global};
 use std::io::{self, Read};
 use std::thread::Threads;
@@ -108,7 +108,11 @@ fn print_run<R: Print + Threads + Sync>(
     let Ok(settings) = settings_of(alloc, name) else {
         return println!(rt; "no memory");
     };
-    let answered = run::<FileNode<AddingMachine>, _>(rt, alloc, settings, script);
+    let answered = if name.ends_with(", in memory") {
+        run::<PlainNode<AddingMachine>, _>(rt, alloc, (), script)
+    } else {
+        run::<FileNode<AddingMachine>, _>(rt, alloc, settings, script)
+    };
     both.compare(rt, alloc, name, script, &answered);
     let text = str::from_utf8(answered.written.as_slice()).unwrap_or("no UTF-8");
     if name.ends_with(", counted") {
@@ -120,7 +124,8 @@ fn print_run<R: Print + Threads + Sync>(
 }
 
 fn main(rt: HostRuntime) -> io::Result<()> {
-    println!(rt; "{}", run_rows(&rt, rt.alloc())?)?;
+    println!(rt; "{}", rows_on_files(&rt, rt.alloc())?)?;
+    println!(rt; "on logs in memory {}", rows_on_plain_logs(&rt, rt.alloc())?)?;
     let mut input = String::new(rt.alloc());
     rt.stdin().read_to_string(&mut input)?;
     let mut name = None;

@@ -179,7 +179,7 @@ module _ (k : NodeKind) (begins : KeepsItsLaw k.rules k.rules.first) (restores :
         down_led old new (of n).groups.own (of n).groups.shows history (λ i. Reopen i) (Stopped names) olds (λ o. o ≡ Stopped names) opened.own stays shown refl (λ h. (on h).0)
 
     -- nothing was begun
-    refused_led : (new : NodeOf k) (stop : Stop) → StaysDown k old new → IsRefusedOpening k.found old.files stop new.files → Led history (Reopen old.id) olds old new (λ o. o ≡ Stopped (names_of stop))
+    refused_led : (new : NodeOf k) (stop : Stop) → StaysDown k old new → IsRefusedOpening k.found k.unopened old.files stop new.files → Led history (Reopen old.id) olds old new (λ o. o ≡ Stopped (names_of stop))
     refused_led new stop stays refused =
         down_led old new old.id (AreShownDown k old.files) history (λ i. Reopen i) (Stopped (names_of stop)) olds (λ o. o ≡ Stopped (names_of stop)) refl stays
         (λ group parts shown content found. shown content (refused.found content found)) refl

@@ -224,7 +224,7 @@ module _ (k : NodeKind) where
 
   -- the files weren't opened, or not for long
   abbrev pub IsUnopened : k.Files → ℕ → Stop → k.Files → Type 0
-  IsUnopened old id stop new = IsRefusedOpening k.found old stop new ⊎ IsLeftOpening k.rules k.found k.cause old id stop new ⊎ IsClosedAgain old id stop new
+  IsUnopened old id stop new = IsRefusedOpening k.found k.unopened old stop new ⊎ IsLeftOpening k.rules k.found k.cause old id stop new ⊎ IsClosedAgain old id stop new
 
   pub record StaysDown (old new : NodeOf k) : Type 0 where
     pub id : new.id ≡ old.id

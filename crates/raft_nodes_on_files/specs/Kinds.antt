@@ -31,6 +31,8 @@ pub record NodeKind : Type 1 where
   pub refuses : Log → Choice → Refusal → Type 0
   -- what an opening finds of files
   pub found : Files → Content (List ℕ) → Type 0
+  -- why they aren't opened, and what they are then
+  pub unopened : Files → StopCause → Files → Type 0
   -- a cluster's words
   pub cause : Fault → StopCause
   pub choice : CrashChoice → Choice
@@ -56,6 +58,7 @@ kind_of {Machine = Machine} {Log = Log} {Fault = Fault} {Files = Files} {Setting
   meets = log.meets;
   refuses = crash.refuses;
   found = node.found;
+  unopened = node.unopened;
   cause = node.cause;
   choice = node.choice;
   refusal = node.refusal;

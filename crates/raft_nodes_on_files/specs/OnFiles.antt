@@ -18,7 +18,7 @@ use Rattle.raft_node.specs.declared.outcome.Outcome.{Outcome}
 use Rattle.raft_store.specs.declared.fault.StoreFault.{StoreFault}
 use Rattle.raft_store.specs.declared.store.Store.{Store}
 use Rattle.raft_nodes_on_files.specs.Acts as over
-use Rattle.raft_nodes_on_files.specs.Files.{IsFoundAs, cause_of_log, choice_in, refusal_in}
+use Rattle.raft_nodes_on_files.specs.Files.{IsFoundAs, IsNotOpened, cause_of_log, choice_in, refusal_in}
 use Rattle.raft_nodes_on_files.specs.Kinds.{NodeKind}
 use Rattle.raft_nodes_on_files.specs.Opening as opening
 
@@ -41,6 +41,7 @@ on_files {M = M} machine rules state = record {
   meets = λ old new met. Meets is_bounded_in meter_in old new met;
   refuses = λ l choice why. CantBeLeftSo choice why (disk_in l.engine.files);
   found = λ files content. IsFoundAs files content;
+  unopened = λ old cause new. IsNotOpened old cause new;
   cause = cause_of_log;
   choice = choice_in;
   refusal = refusal_in;
@@ -50,7 +51,7 @@ abbrev pub UpNode : (M : Type 0) → Ghosts M → Type 0
 UpNode M g = Node M (Store M MemoryLog EngineFault) (StoreFault EngineFault) g
 
 abbrev pub IsRefusedOpening : LogFiles → Stop → LogFiles → Type 0
-IsRefusedOpening old stop new = opening.IsRefusedOpening (λ files content. IsFoundAs files content) old stop new
+IsRefusedOpening old stop new = opening.IsRefusedOpening (λ files content. IsFoundAs files content) (λ before why after. IsNotOpened before why after) old stop new
 
 abbrev pub IsLeftOpening : MachineRules → LogFiles → ℕ → Stop → LogFiles → Type 0
 IsLeftOpening rules old id stop new = over.IsLeftOpening rules (λ files content. IsFoundAs files content) cause_of_log old id stop new

@@ -5,7 +5,7 @@ ghost use Rattle.raft_log_disk.specs.MemorySystem.{disk_in};
 ghost use Rattle.raft_log_engine.specs.Left.{answers_on};
 ghost use Rattle.raft_log_engine.specs.Log.{leaves_of_log};
 ghost use Rattle.raft_nodes_on_files.specs.Answering.{quiet_stop};
-ghost use Rattle.raft_nodes_on_files.specs.Files.{IsFoundAs, cause_of_log, choice_in, refusal_in};
+ghost use Rattle.raft_nodes_on_files.specs.Files.{IsFoundAs, cause_of_log, cause_of_refusal, choice_in, refusal_in};
 ghost use Rattle.raft_nodes_on_files.specs.OnFiles.{IsRefusedOpening};
 
 use crate::faults::quiet_stop;
@@ -33,7 +33,9 @@ pub fn cause_of_log(fault: EngineFault) -> StopCause
 }
 
 // Why files that show by chance what nobody wrote aren't opened.
-fn cause_of_refusal(why: FileRefusal) -> StopCause {
+fn cause_of_refusal(why: FileRefusal) -> StopCause
+    ensures { result ≡ cause_of_refusal why }
+{
     match why {
         FileRefusal::Memory => StopCause::Memory,
         FileRefusal::ByChance | FileRefusal::NotAnImage => StopCause::Other,
@@ -117,11 +119,13 @@ impl NodeLog for MemoryLog {
 
     type Settings = Config;
 
-    ghost use Rattle.raft_nodes_on_files.specs.Files.{IsFoundAs, cause_of_log, choice_in, files_in, refusal_in};
+    ghost use Rattle.raft_nodes_on_files.specs.Files.{IsFoundAs, IsNotOpened, cause_of_log, choice_in, files_in, refusal_in};
 
     ghost found = { λ files content. IsFoundAs files content };
 
     ghost finds = { λ log content. IsFoundAs (files_in log) content };
+
+    ghost unopened = { λ old cause new. IsNotOpened old cause new };
 
     ghost cause = { cause_of_log };
 

@@ -36,6 +36,9 @@ pub trait NodeLog: CleanLog + CrashLog<Choice: Drop> {
     /// An opening of the log's files as they are finds this content.
     ghost finds: { Self → Content (List ℕ) → Type 0 };
 
+    /// Files aren't opened for this cause, and are so then.
+    ghost unopened: { Self.Files → StopCause → Self.Files → Type 0 };
+
     /// Why a node stops at a fault of its log.
     ghost cause: { Self.Fault → StopCause };
 
@@ -54,7 +57,8 @@ pub trait NodeLog: CleanLog + CrashLog<Choice: Drop> {
 
     /// The log of these files, which so many workers read, on threads that the handle makes (as a
     /// cluster's node is opened). It answers what is found of them, and leaves nothing else. Where they
-    /// aren't opened nobody waited, and nothing is found of them then that wasn't found before.
+    /// aren't opened nobody waited, there is a cause, and nothing is found of them then that wasn't found
+    /// before.
     fn open<R: Threads + Sync>(
         rt: &R,
         alloc: Global,
@@ -67,7 +71,7 @@ pub trait NodeLog: CleanLog + CrashLog<Choice: Drop> {
         ensures sound { IfOk result (λ log. Self.ContentLog.is_sound log) }
         ensures found { IfOk result (λ log. found files (Self.ContentLog.answers log)) }
         ensures leaves { IfOk result (λ log. LeavesOnly (Self.ContentLog.leaves log) (Self.ContentLog.answers log)) }
-        ensures err { IfErr result (λ refused. IsRefusedOpening found files refused.stop refused.files) };
+        ensures err { IfErr result (λ refused. IsRefusedOpening found unopened files refused.stop refused.files) };
 
     /// The files, handed back as they are with no call on them, as where a machine stops. What an
     /// opening finds of them the log left.

@@ -23,7 +23,7 @@ pub fn open_over_log<M: StateMachine, L: NodeLog, R: Threads + Sync>(
     workers: u64,
 ) -> Result<Opened<M, Store<M, L>>, Unopened<L::Files>>
     ensures ok { IfOk result (λ o. IsOpened (kind_of M.StateMachine.own L.ContentLog.own L.CrashLog.own L.NodeLog.own) files id o.node o.outcomes.items) }
-    ensures err { IfErr result (λ u. IsRefusedOpening L.found files u.stop u.files ⊎ IsLeftOpening M.rules L.found L.cause files id u.stop u.files) }
+    ensures err { IfErr result (λ u. IsRefusedOpening L.found L.unopened files u.stop u.files ⊎ IsLeftOpening M.rules L.found L.cause files id u.stop u.files) }
 {
     let log = L::open(rt, alloc, files, workers)?;
     match Node::open(alloc, id, Store::new(alloc, log)) {

@@ -27,7 +27,8 @@ impl NodeLog for FusedLog {
 
     type Settings = ();
 
-    ghost use Rattle.std.specs.Prelude.{◌≡◌, false};
+    ghost use Rattle.std.specs.Prelude.{◌≡◌, false, true};
+    ghost use Rattle.raft_cluster_events.specs.declared.outcome.StopCause.TheVariants.{Memory};
     ghost use Rattle.std.proofs.Common.{subst};
     ghost use Rattle.raft_plain_nodes.specs.Causes.{cause_of_fault};
     ghost use Rattle.raft_plain_nodes.specs.declared.fused_log.FusedLog.{FusedLog};
@@ -35,6 +36,8 @@ impl NodeLog for FusedLog {
     ghost found = { λ files content. (files.is_lost ≡ false) × ⟦<FusedLog as ContentLog>⟧.leaves files content };
 
     ghost finds = { λ log content. (log.is_lost ≡ false) × ⟦<FusedLog as ContentLog>⟧.leaves log content };
+
+    ghost unopened = { λ old cause new. (old.is_lost ≡ true) × (cause ≡ Memory) };
 
     ghost cause = { cause_of_fault };
 

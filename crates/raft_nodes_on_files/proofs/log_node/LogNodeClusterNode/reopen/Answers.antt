@@ -25,7 +25,7 @@ returns-in-Err-clause-does g c =
     opened_or_not k c.args.self.now.up _ _ none (
       record { id = refl; down = none },
       ⊎_elim
-          (λ refused. inl (subst (λ (f : k.Files). IsRefusedOpening k.found f u.stop u.files) same refused))
+          (λ refused. inl (subst (λ (f : k.Files). IsRefusedOpening k.found k.unopened f u.stop u.files) same refused))
           (λ left. inr (inl (subst (λ (f : k.Files). IsLeftOpening k.rules k.found k.cause f c.args.self.now.id u.stop u.files) same left)))
           c.in-Err.ensures.err,
     )
