@@ -17,10 +17,9 @@ use Rattle.raft_node.specs.declared.node.Node.{Node}
 use Rattle.raft_node.specs.declared.outcome.Outcome.{Outcome}
 use Rattle.raft_store.specs.declared.fault.StoreFault.{StoreFault}
 use Rattle.raft_store.specs.declared.store.Store.{Store}
-use Rattle.raft_nodes_on_files.specs.Acts as over
-use Rattle.raft_nodes_on_files.specs.Files.{IsFoundAs, IsNotOpened, cause_of_log, choice_in, refusal_in}
-use Rattle.raft_nodes_on_files.specs.Kinds.{NodeKind}
-use Rattle.raft_nodes_on_files.specs.Opening as opening
+use Rattle.raft_nodes_on_logs.specs.Acts as over
+use Rattle.raft_node_logs.specs.Files.{IsFoundAs, IsNotOpened, cause_of_log, choice_in, refusal_in}
+use Rattle.raft_nodes_on_logs.specs.Kinds.{NodeKind}
 
 -- one of this machine, over a log on files
 abbrev pub on_files : {M : Type 0} → Ghosts M → MachineRules → (M → List ℕ) → NodeKind
@@ -49,9 +48,6 @@ on_files {M = M} machine rules state = record {
 
 abbrev pub UpNode : (M : Type 0) → Ghosts M → Type 0
 UpNode M g = Node M (Store M MemoryLog EngineFault) (StoreFault EngineFault) g
-
-abbrev pub IsRefusedOpening : LogFiles → Stop → LogFiles → Type 0
-IsRefusedOpening old stop new = opening.IsRefusedOpening (λ files content. IsFoundAs files content) (λ before why after. IsNotOpened before why after) old stop new
 
 abbrev pub IsLeftOpening : MachineRules → LogFiles → ℕ → Stop → LogFiles → Type 0
 IsLeftOpening rules old id stop new = over.IsLeftOpening rules (λ files content. IsFoundAs files content) cause_of_log old id stop new

@@ -1,7 +1,7 @@
 //! A node on files of its own.
 
-use crate::log_node::LogNode;
 use raft_log_engine::MemoryLog;
+use raft_nodes_on_logs::LogNode;
 
 /// A node of a cluster, on files of its own in memory (own).
 pub type FileNode<M> = LogNode<M, MemoryLog>;

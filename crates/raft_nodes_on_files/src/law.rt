@@ -7,19 +7,12 @@ ghost use Rattle.raft_node_laws.specs.Law.{KeepsLaw};
 ghost use Rattle.raft_sent_frames.specs.Frames.{frames_of};
 
 use crate::file_node::FileNode;
-use crate::log_node::LogNode;
-use crate::node_log::NodeLog;
 use raft_cluster_events::{ClusterEvent, ClusterNode};
 use raft_listed_cluster::{ListedCluster, RoundRefusal};
 use raft_log_engine::MemoryLog;
 use raft_machines::StateMachine;
+use raft_nodes_on_logs::log_nodes_keep_the_law;
 use std::thread::Threads;
-
-/// A node over any log keeps the law that a cluster asks of its nodes: wherever it stands in a history,
-/// each of its calls, crashes and openings leads its groups on as the rules say, and it answers so.
-pub fn log_nodes_keep_the_law<M: StateMachine, L: NodeLog>()
-    ensures { KeepsLaw M.rules ⟦<LogNode<M, L> as ClusterNode>⟧.acts ⟦<LogNode<M, L> as ClusterNode>⟧.states }
-{}
 
 /// A node on files keeps the law that a cluster asks of its nodes: wherever it stands in a history,
 /// each of its calls, crashes and openings leads its groups on as the rules say, and it answers so.

@@ -3,14 +3,15 @@ ghost use Rattle.std.specs.Prelude.{◌≡◌, ◌⊎◌, IfErr, IfOk, false};
 ghost use Rattle.raft_log_disk.specs.MemorySystem.{meter_in};
 ghost use Rattle.raft_log_engine.specs.Caused.{IsSyncFault};
 ghost use Rattle.raft_log_engine.specs.Closing.{handed_back};
-ghost use Rattle.raft_nodes_on_files.specs.OnFiles.{AreHandedBack, IsLeftOpening, IsOpened, IsRefusedOpening};
+ghost use Rattle.raft_node_logs.specs.Files.{AreNotOpened};
+ghost use Rattle.raft_nodes_on_files.specs.OnFiles.{AreHandedBack, IsLeftOpening, IsOpened};
 
-use crate::node_log::Unopened;
-use crate::over_log::open_over_log;
 use raft_log_engine::{LogFiles, MemoryLog, NotClosed};
 use raft_log_files::MemoryFileSystem;
 use raft_machines::StateMachine;
 use raft_node::{Node, Opened};
+use raft_node_logs::Unopened;
+use raft_nodes_on_logs::open_over_log;
 use raft_store::Store;
 use std::alloc::Global;
 use std::thread::Threads;
@@ -28,7 +29,7 @@ pub fn open_node<M: StateMachine, R: Threads + Sync>(
     workers: u64,
 ) -> Result<Opened<M, Kept<M>>, Unopened<LogFiles>>
     ensures ok { IfOk result (λ o. IsOpened M.rules M.state files id o.node o.outcomes.items) }
-    ensures err { IfErr result (λ u. IsRefusedOpening files u.stop u.files ⊎ IsLeftOpening M.rules files id u.stop u.files) }
+    ensures err { IfErr result (λ u. AreNotOpened files u.stop u.files ⊎ IsLeftOpening M.rules files id u.stop u.files) }
 {
     open_over_log::<M, MemoryLog, R>(rt, alloc, id, files, workers)
 }

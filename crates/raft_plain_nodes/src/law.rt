@@ -8,7 +8,7 @@ use crate::fused_log::FusedLog;
 use raft_cluster_events::{ClusterEvent, ClusterNode};
 use raft_listed_cluster::ListedCluster;
 use raft_machines::StateMachine;
-use raft_nodes_on_files::{LogNode, log_nodes_keep_the_law};
+use raft_nodes_on_logs::{LogNode, log_nodes_keep_the_law};
 use std::thread::Threads;
 
 /// A node of a cluster, over a log of its own in memory: a crash keeps what is stored, whatever the

@@ -5,7 +5,7 @@ ghost use Rattle.raft_plain_nodes.specs.Causes.{cause_of_fault};
 use crate::fused_log::{FusedFault, FusedLog};
 use raft_cluster_events::{CrashChoice, CrashRefusal, StopCause};
 use raft_content_log::{ContentLog, PlainFault};
-use raft_nodes_on_files::{NodeLog, Unopened, quiet_stop};
+use raft_node_logs::{NodeLog, Unopened, quiet_stop};
 use std::alloc::{AllocError, Global};
 use std::thread::Threads;
 

@@ -3,7 +3,7 @@ use Rattle.raft_log_disk.specs.MemorySystem.{disk_in}
 use Rattle.raft_log_engine.specs.Log.{leaves_of_log}
 use Rattle.raft_log_engine.specs.declared.memory.MemoryLog.{MemoryLog}
 use Rattle.raft_nodes_on_files.specs.OnFiles.{on_files}
-use Rattle.raft_nodes_on_files.proofs.Handing.{handed_back}
+use Rattle.raft_nodes_on_logs.proofs.Handing.{handed_back}
 use Rattle.raft_nodes_on_files.proofs.opening.abandon_node.Goals as goal
 
 pub returns-clause-shown : goal.returns-clause-shown

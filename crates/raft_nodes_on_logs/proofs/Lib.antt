@@ -1,0 +1,11 @@
+mod Standing
+mod Led
+mod Taken
+mod Calls
+mod Pieces
+mod Deliveries
+mod Openings
+mod Lending
+mod Keeping
+mod Handing
+mod Beginning
