@@ -260,7 +260,7 @@ module _ {F : Type 0} (disk : F → Disk) (old : Parts F) (held : HeldBy disk ol
           (sym (only_left (disk files) p traced.tables is_stopped false can.rewrites can.appends (cleaned_kept (disk files) p traced (answers_on disk old) can) refl left may ∙ cleaned_seen (disk files) p traced (answers_on disk old) can))
           (is_left (disk old.files) old.pipes old.tables old.is_stopped old.wrote_unsynced kept.0 kept.1 kept.2 goes_on)
 
-  pub cleaned_written : (reads : ℕ) → HasWritten disk (parts files p traced.tables is_stopped false reads) (seen_on (disk files) p traced.tables) []
-  cleaned_written reads =
-      nothing_since disk (parts files p traced.tables is_stopped false reads) can.rewrites can.appends can.rewrite can.append (seen_on (disk files) p traced.tables)
+  pub cleaned_written : (reads threshold : ℕ) → HasWritten disk (parts files p traced.tables is_stopped false reads traced threshold) (seen_on (disk files) p traced.tables) []
+  cleaned_written reads threshold =
+      nothing_since disk (parts files p traced.tables is_stopped false reads traced threshold) can.rewrites can.appends can.rewrite can.append (seen_on (disk files) p traced.tables)
       (answered (disk files) p traced.tables can.rewrites can.appends (cleaned_kept (disk files) p traced (answers_on disk old) can))

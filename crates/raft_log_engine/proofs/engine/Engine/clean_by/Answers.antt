@@ -1,8 +1,9 @@
 -- A cleaning: the content stays, and whatever a crash leaves of one that was refused reads as it.
-use Rattle.std.proofs.Common.{◌≡◌, ◌⊎◌, ℕ, ◌+◌, ◌≤◌, [], refl, rules, sym, subst, ◌∙◌}
+use Rattle.std.proofs.Common.{◌≡◌, ◌⊎◌, ℕ, ◌+◌, ◌≤◌, [], refl, rules, sym, ap, subst, ◌∙◌}
 use Rattle.std.specs.Prelude.{IfSome}
 use Rattle.std.proofs.lemmas.Bool.{false≢true}
 use Rattle.raft_log_disk.proofs.RefusalLemmas.{no_more_same, no_more_then}
+use Rattle.raft_log_covers.specs.Trace.{greater}
 use Rattle.raft_log_pipe.specs.Pipe.{first_of}
 use Rattle.raft_log_blocks.specs.Held.{seen_on}
 use Rattle.raft_log_engine.specs.Reopened.{OpensAs, directories_of_pipes}
@@ -85,7 +86,7 @@ returns-in-Ok-clause-left g c =
     let now = c.clean.new.log in
     let content = seen_on d p traced.tables in
     let cleaned = c.in-Ok.ensures.cleans.ok content can in
-    rw (← c.self.view_is) (cleaned_left (g.F.FileSystem.disk) (parts c.self.inside.files c.self.inside.pipes c.self.inside.traced.tables c.self.inside.is_stopped c.self.inside.wrote_unsynced c.self.inside.blocks.reads) (c.self.invariant c.if-self.false).batches c.clean.new.files t now cleaned c.self.inside.is_stopped c.if-self.false)
+    rw (← c.self.view_is) (cleaned_left (g.F.FileSystem.disk) (parts c.self.inside.files c.self.inside.pipes c.self.inside.traced.tables c.self.inside.is_stopped c.self.inside.wrote_unsynced c.self.inside.blocks.reads c.self.inside.traced c.self.inside.manager.purge_threshold) (c.self.invariant c.if-self.false).batches c.clean.new.files t now cleaned c.self.inside.is_stopped c.if-self.false)
 
 pub returns-in-Ok-clause-all_written : goal.returns-in-Ok-clause-all_written
 returns-in-Ok-clause-all_written g c =
@@ -100,7 +101,7 @@ returns-in-Ok-clause-all_written g c =
     let now = c.clean.new.log in
     let content = seen_on d p traced.tables in
     let cleaned = c.in-Ok.ensures.cleans.ok content can in
-    cleaned_written (g.F.FileSystem.disk) (parts c.self.inside.files c.self.inside.pipes c.self.inside.traced.tables c.self.inside.is_stopped c.self.inside.wrote_unsynced c.self.inside.blocks.reads) (c.self.invariant c.if-self.false).batches c.clean.new.files t now cleaned c.self.inside.is_stopped _
+    cleaned_written (g.F.FileSystem.disk) (parts c.self.inside.files c.self.inside.pipes c.self.inside.traced.tables c.self.inside.is_stopped c.self.inside.wrote_unsynced c.self.inside.blocks.reads c.self.inside.traced c.self.inside.manager.purge_threshold) (c.self.invariant c.if-self.false).batches c.clean.new.files t now cleaned c.self.inside.is_stopped _ _
 
 pub returns-in-Ok-clause-paths : goal.returns-in-Ok-clause-paths
 returns-in-Ok-clause-paths g c = rw (← c.self.view_is) (c.in-Ok.ensures.both.0.paths ∙ c.in_default.ensures.still.paths)
@@ -199,6 +200,13 @@ pub returns-in-Ok-clause-barrier : goal.returns-in-Ok-clause-barrier
 returns-in-Ok-clause-barrier g c =
     let still = c.in_default.ensures.still in
     rw (← c.self.view_is) (subst (λ (n : ℕ). IfSome c.args.barrier (λ file. (first_of c.clean.new.pipes.append ≡ n) ⊎ (first_of c.clean.new.pipes.append ≤ file))) (same_first c.self.inside.pipes.append c.sync_unsynced.new.pipes.append still.same) c.in-Ok.ensures.barrier)
+
+pub returns-in-Ok-clause-gone : goal.returns-in-Ok-clause-gone
+returns-in-Ok-clause-gone g c =
+    let still = c.in_default.ensures.still in
+    rw (← c.self.view_is) (λ all.
+    let went = c.in-Ok.ensures.gone all in
+    (went.0, went.1, went.2 ∙ ap (λ (n : ℕ). greater n went.0) (same_first c.self.inside.pipes.append c.sync_unsynced.new.pipes.append still.same)))
 
 pub returns-in-Ok-clause-count : goal.returns-in-Ok-clause-count
 returns-in-Ok-clause-count g c =
@@ -317,7 +325,7 @@ returns-then-not-may_clean-clause-opens_still g c =
     let d = g.F.FileSystem.disk c.self.inside.files in
     let p = c.self.inside.pipes in
     rw (← c.self.view_is) (λ sound alone.
-    let kept = kept_by (g.F.FileSystem.disk) (parts c.self.inside.files c.self.inside.pipes c.self.inside.traced.tables c.self.inside.is_stopped c.self.inside.wrote_unsynced c.self.inside.blocks.reads) (c.self.invariant c.if-self.false).batches sound.synced in
+    let kept = kept_by (g.F.FileSystem.disk) (parts c.self.inside.files c.self.inside.pipes c.self.inside.traced.tables c.self.inside.is_stopped c.self.inside.wrote_unsynced c.self.inside.blocks.reads c.self.inside.traced c.self.inside.manager.purge_threshold) (c.self.invariant c.if-self.false).batches sound.synced in
     kept_opens d p c.self.inside.traced.tables kept.0 kept.1 (met.is_named c.self.inside.files) alone kept.2)
 
 pub returns-then-not-may_clean-clause-opens_in_tail : goal.returns-then-not-may_clean-clause-opens_in_tail
