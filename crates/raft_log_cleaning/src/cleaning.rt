@@ -149,14 +149,7 @@ pub fn clean<F: FileSystem>(
     ensures later { RefusesNoMore (F.is_bounded files.old) (F.is_bounded files.new) (F.meter files.old) (F.meter files.new) }
 {
     match extent {
-        Extent::All => match clean_all(
-            manager,
-            files,
-            pipes,
-            log,
-            RewriteStep::Rewrites,
-            barrier,
-        ) {
+        Extent::All => match clean_all(manager, files, pipes, log, RewriteStep::Rewrites, barrier) {
             Ok(went) => Ok(Cleaned {
                 went,
                 told: Vec::new(alloc),

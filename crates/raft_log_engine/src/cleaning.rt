@@ -54,7 +54,11 @@ fn sync_unsynced<F: FileSystem>(
 
 impl<F: FileSystem + Drop> Engine<F> {
     /// Cleans as much of the log as is asked for, as `clean_append_queue` says (own).
-    pub(crate) fn clean_by(&mut self, extent: Extent, barrier: Option<FileSeq>) -> Result<Cleaned, EngineFault>
+    pub(crate) fn clean_by(
+        &mut self,
+        extent: Extent,
+        barrier: Option<FileSeq>,
+    ) -> Result<Cleaned, EngineFault>
         ensures answers { OnOk result (answers_on F.disk self.new ≡ answers_on F.disk self.old) }
         ensures goes_on { self.new.is_stopped ≡ false → answers_on F.disk self.new ≡ answers_on F.disk self.old }
         ensures sound { OnOk result (IsSound self.new) }

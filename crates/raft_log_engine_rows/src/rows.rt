@@ -164,7 +164,10 @@ fn tool_row(alloc: Global, words: &[&str]) -> Option<Answer> {
         }
         ["forked", setting, directory, target_size, steps @ ..] => {
             let target_size = number(target_size);
-            Answer::shown(alloc, &forked(alloc, setting, directory, target_size, steps))
+            Answer::shown(
+                alloc,
+                &forked(alloc, setting, directory, target_size, steps),
+            )
         }
         _ => return None,
     })

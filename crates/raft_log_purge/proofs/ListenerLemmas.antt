@@ -29,10 +29,11 @@ all_keep kept queue n (x ∷ ls) l all =
 -- one listener more was asked
 pub one_asked : {L : Type 0} (kept : L → LogQueue → Option ℕ) (queue : LogQueue) (ls more : List L) (l : L) (old new found : Option ℕ) → more ≡ ls ++ l ∷ [] → found ≡ kept l queue → new ≡ least old found
     → IsLeastKept kept queue ls old → IsLeastKept kept queue more new
-one_asked kept queue ls more l old new found e f g so_far n =
-    (λ late.
+one_asked kept queue ls more l old new found e f g so_far n = (
+  λ late.
       let both = from_least n old found (subst (λ (o : Option ℕ). IsFrom n o) g late) in
       subst (λ x. AllKeepFrom kept queue n x) (sym e) (last_keeps kept queue n ls l ((so_far n).0 both.0) (subst (λ (o : Option ℕ). IsFrom n o) f both.1)),
-    λ all.
+  λ all.
       let both = all_keep kept queue n ls l (subst (λ x. AllKeepFrom kept queue n x) e all) in
-      subst (λ (o : Option ℕ). IsFrom n o) (sym g) (to_least n old found ((so_far n).1 both.0) (subst (λ (o : Option ℕ). IsFrom n o) (sym f) both.1)))
+      subst (λ (o : Option ℕ). IsFrom n o) (sym g) (to_least n old found ((so_far n).1 both.0) (subst (λ (o : Option ℕ). IsFrom n o) (sym f) both.1)),
+)

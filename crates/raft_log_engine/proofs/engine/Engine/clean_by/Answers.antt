@@ -1,14 +1,15 @@
 -- A cleaning: the content stays, and whatever a crash leaves of one that was refused reads as it.
-use Rattle.std.proofs.Common.{◌≡◌, ◌⊎◌, ℕ, ◌+◌, ◌≤◌, [], refl, rules, sym, ap, subst, ◌∙◌}
+use Rattle.std.proofs.Common.{◌≡◌, ◌⊎◌, ℕ, ◌+◌, ◌≤◌, [], refl, rules, sym, subst, ◌∙◌}
 use Rattle.std.specs.Prelude.{IfSome}
 use Rattle.std.proofs.lemmas.Bool.{false≢true}
 use Rattle.raft_log_disk.proofs.RefusalLemmas.{no_more_same, no_more_then}
-use Rattle.raft_log_covers.specs.Trace.{greater}
 use Rattle.raft_log_pipe.specs.Pipe.{first_of}
 use Rattle.raft_log_blocks.specs.Held.{seen_on}
 use Rattle.raft_log_engine.specs.Reopened.{OpensAs, directories_of_pipes}
 use Rattle.raft_log_engine.proofs.Clauses.{kept_by, parts}
-use Rattle.raft_log_engine.proofs.Cleaned.{both_stand, can_clean, cleaned_holds, cleaned_kept, cleaned_left, cleaned_seen, cleaned_written, only_new_since, same_first, set_then, standing_in_tail, standing_opens}
+use Rattle.raft_log_traces.specs.GroupTraces.{traces_in}
+use Rattle.raft_log_engine.proofs.Barred.{barred}
+use Rattle.raft_log_engine.proofs.Cleaned.{both_stand, can_clean, cleaned_holds, cleaned_kept, cleaned_left, cleaned_seen, cleaned_written, gone_since, large_still, only_new_since, same_first, set_then, standing_in_tail, standing_opens}
 use Rattle.raft_log_engine.proofs.Reopened.{kept_opens, synced_stands}
 use Rattle.raft_log_engine.proofs.Tails.{held_in_tail}
 use Rattle.raft_log_engine.proofs.engine.Engine.clean_by.Goals as goal
@@ -204,9 +205,31 @@ returns-in-Ok-clause-barrier g c =
 pub returns-in-Ok-clause-gone : goal.returns-in-Ok-clause-gone
 returns-in-Ok-clause-gone g c =
     let still = c.in_default.ensures.still in
-    rw (← c.self.view_is) (λ all.
-    let went = c.in-Ok.ensures.gone all in
-    (went.0, went.1, went.2 ∙ ap (λ (n : ℕ). greater n went.0) (same_first c.self.inside.pipes.append c.sync_unsynced.new.pipes.append still.same)))
+    rw (← c.self.view_is) (λ all. gone_since (traces_in c.clean.new.log.traces) c.args.barrier c.self.inside.pipes.append c.sync_unsynced.new.pipes.append c.clean.new.pipes.append still.same (c.in-Ok.ensures.gone all))
+
+pub returns-in-Ok-clause-stale : goal.returns-in-Ok-clause-stale
+returns-in-Ok-clause-stale g c =
+    let still = c.in_default.ensures.still in
+    rw (← c.self.view_is) (λ is. gone_since (traces_in c.clean.new.log.traces) c.args.barrier c.self.inside.pipes.append c.sync_unsynced.new.pipes.append c.clean.new.pipes.append still.same (c.in-Ok.ensures.stale is).gone)
+
+pub returns-in-Ok-clause-expired : goal.returns-in-Ok-clause-expired
+returns-in-Ok-clause-expired g c =
+    let still = c.in_default.ensures.still in
+    let p = c.self.inside.pipes.append in
+    let q = c.sync_unsynced.new.pipes.append in
+    rw (← c.self.view_is) (λ due is large.
+    gone_since (traces_in c.clean.new.log.traces) c.args.barrier p q c.clean.new.pipes.append still.same (c.in-Ok.ensures.expired due is (large_still p q c.self.inside.manager.purge_threshold still.same c.in_default.ensures.set.0.0 large)))
+
+pub returns-in-Ok-clause-stale_count : goal.returns-in-Ok-clause-stale_count
+returns-in-Ok-clause-stale_count g c =
+    let still = c.in_default.ensures.still in
+    rw (← c.self.view_is) (λ is. subst (λ (n : ℕ). n + c.in-Ok.done.went ≡ first_of c.clean.new.pipes.append) (same_first c.self.inside.pipes.append c.sync_unsynced.new.pipes.append still.same) (c.in-Ok.ensures.stale_count is))
+
+pub returns-then-not-may_clean-clause-barred : goal.returns-then-not-may_clean-clause-barred
+returns-then-not-may_clean-clause-barred g c =
+    rw (← c.self.view_is) (λ is.
+    barred (parts c.self.inside.files c.self.inside.pipes c.self.inside.traced.tables c.self.inside.is_stopped c.self.inside.wrote_unsynced c.self.inside.blocks.reads c.self.inside.traced c.self.inside.manager.purge_threshold) c.self.inside.traced refl refl c.args.extent
+    (λ may. false≢true (sym c.if-not-may_clean.true ∙ c.may_clean.ensures.1 may)))
 
 pub returns-in-Ok-clause-count : goal.returns-in-Ok-clause-count
 returns-in-Ok-clause-count g c =
