@@ -28,3 +28,4 @@ pub mod Unopened
 pub mod Cleaned
 pub mod Handed
 pub mod Barred
+pub mod KeptFiles

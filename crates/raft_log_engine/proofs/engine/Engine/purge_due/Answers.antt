@@ -61,3 +61,9 @@ pub returns-in-Err-Marked-clause-barrier : goal.returns-in-Err-Marked-clause-bar
 returns-in-Err-Marked-clause-barrier g c =
     let same = c.clean_by.ensures.marked (c.in-Err-Marked.is ∙ ap (λ (fault : EngineFault). Err fault) c.in-Err-Marked.field-0-is) in
     rw same (barrier_same c.args.barrier c.args.self.now.pipes c.args.self.now.pipes refl)
+
+pub returns-in-Ok-clean_by-clause-expired : goal.returns-in-Ok-clean_by-clause-expired
+returns-in-Ok-clean_by-clause-expired g c = λ unmarked large. c.in-Ok-clean_by.ensures.expired c.free_of-free.result refl large
+
+pub returns-in-Err-clause-expired : goal.returns-in-Err-clause-expired
+returns-in-Err-clause-expired g c = λ unmarked large. tt
