@@ -58,13 +58,14 @@ pub struct HostLog {
 impl Model for HostLog {
     ghost use Rattle.raft_log_engine.specs.Log.{IsLog, LogOn};
     ghost use Rattle.raft_log_memtables.specs.contracts.memtables.MemTables as tables;
+    ghost use Rattle.raft_log_traces.specs.contracts.group_traces.GroupTraces as traces;
     ghost use Rattle.raft_log_host.specs.contracts.files.HostFileSystem as files;
     ghost use Rattle.raft_log_host.specs.Mirror.{OnHost, host_disk};
     ghost use Rattle.std.specs.Coded.{codes};
 
     ghost Value = { LogOn OnHost };
 
-    ghost coded = { Prim.hlevel (codes, tables.the_row.coded, files.the_row.coded) };
+    ghost coded = { Prim.hlevel (codes, tables.the_row.coded, traces.the_row.coded, files.the_row.coded) };
 
     ghost view = { λ l. record { engine = l.engine; settings = l.settings; has_failed = l.has_failed } };
 

@@ -1,6 +1,6 @@
 -- Cleanings one behind the other, and what is refused behind them.
 use Rattle.std.proofs.Common.{◌≡◌, ◌⊎◌, ℕ, ◌≤◌, Bool, true, false, List, Option, Some, None, refl, sym, ap, subst, ◌∙◌}
-use Rattle.std.specs.Prelude.{Result, Ok, Err, OnErr, OnOk, IfOk, Vec, ◌||◌}
+use Rattle.std.specs.Prelude.{Result, Ok, Err, OnErr, OnOk, IfOk, Vec, ◌+◌, ◌||◌}
 use Rattle.std.specs.declared.alloc.Global.{Global}
 use Rattle.std.specs.Result.{IsErrAnd}
 use Rattle.raft_log_disk.specs.Disk.{Disk}
@@ -14,6 +14,7 @@ use Rattle.raft_log_memtables.specs.MemTables.{content_in}
 use Rattle.raft_log_purge.specs.declared.reports.Reports.{Reports}
 use Rattle.raft_log_purge.specs.Due.{IsLarge}
 use Rattle.raft_log_purge.specs.Going.{GoesToNeeded}
+use Rattle.raft_log_traces.specs.GroupTraces.{traces_in}
 use Rattle.raft_log_traced.specs.declared.traced.TracedTables.{TracedTables}
 use Rattle.raft_log_cleaner.specs.declared.manager.PurgeManager.{PurgeManager}
 use Rattle.raft_log_cleaner.specs.Cleaning.{CanClean, Cleans, IsLeftStanding, KeepsFromBarrier}
@@ -27,6 +28,7 @@ use Rattle.raft_log_cleaner.proofs.Keeping.{same_pipes}
 use Rattle.raft_log_cleaner.proofs.Stood.{both_then, kept_then_stands, refused_stands}
 use Rattle.raft_log_cleaner.proofs.Telling.{there_seen}
 use Rattle.raft_log_cleaning.specs.Extents.{HasOnlyNew}
+use Rattle.raft_log_cleaning.specs.Stale.{IsPurged}
 use Rattle.raft_log_cleaning.specs.Told.{AreMany, IsCleanedAnew, IsToldBehind}
 
 -- the counters begin again
@@ -119,3 +121,24 @@ cleaned_anew (Ok told) d e f p q r log mid new m after many one anew append agai
   told_behind = behind;
 }
 cleaned_anew (Err x) d e f p q r log mid new m after many one anew append again are two behind = tt
+
+-- both queues have only files that are needed
+pub purged_behind : (result : Result ℕ Error) (d e f : Disk) (p q r : DualPipes) (log mid new : TracedTables) (barrier : Option ℕ)
+    → ((content : Content (List ℕ)) → CanClean d p log content → CanClean e q mid content) → HasOnlyNew p q → q.append ≡ p.append → AreLive log mid.written → Cleans e q mid f r new result
+    → OnOk result (GoesToNeeded (traces_in new.traces) barrier q.append r.append) → OnOk result (IsPurged d p log barrier f r new)
+purged_behind (Ok n) d e f p q r log mid new barrier one anew append again two gone = record {
+  disk = e;
+  pipes = q;
+  between = mid;
+  before = one;
+  behind = λ content can. two.ok content can;
+  anew = anew;
+  append = append;
+  begins_again = again;
+  gone = subst (λ (a : SinglePipe). GoesToNeeded (traces_in new.traces) barrier a r.append) append gone;
+}
+purged_behind (Err x) d e f p q r log mid new barrier one anew append again two gone = tt
+
+-- so many went
+pub counted_behind : (result : Result ℕ Error) (p q r : DualPipes) → q.append ≡ p.append → IfOk result (λ n. first_of q.append + n ≡ first_of r.append) → IfOk result (λ n. first_of p.append + n ≡ first_of r.append)
+counted_behind result p q r append count = subst (λ (a : SinglePipe). IfOk result (λ n. first_of a + n ≡ first_of r.append)) append count

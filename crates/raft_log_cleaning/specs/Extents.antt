@@ -4,13 +4,14 @@ use Rattle.raft_log_pipe.specs.Pipe.{first_of}
 use Rattle.raft_log_pipes.specs.declared.pipes.DualPipes.{DualPipes}
 use Rattle.raft_log_traced.specs.declared.traced.TracedTables.{TracedTables}
 use Rattle.raft_log_cleaning.specs.declared.cleaning.Extent.{Extent}
-use Rattle.raft_log_cleaning.specs.declared.cleaning.Extent.TheVariants.{All, Expired, Rewrites}
+use Rattle.raft_log_cleaning.specs.declared.cleaning.Extent.TheVariants.{All, Expired, Rewrites, Stale}
 
 -- the rewrite queue is written anew
 abbrev pub writes_anew : Extent → Bool
 writes_anew All = false
 writes_anew (Expired due) = due.rewrites
 writes_anew Rewrites = true
+writes_anew Stale = true
 
 -- An opening found no batch of the append queue that belongs to an atomic group. Where the rewrite queue is written anew it found the
 -- records of each atomic group there together

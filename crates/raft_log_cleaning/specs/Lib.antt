@@ -1,3 +1,4 @@
 pub mod Extents
 pub mod Due
 pub mod Told
+pub mod Stale

@@ -9,7 +9,8 @@ ghost use Rattle.raft_log_cleaner.specs.Pipes.{KeepBoth};
 ghost use Rattle.raft_log_cleaner.specs.Told.{AreTold, is_among, marks_of_pipe, queue_of};
 ghost use Rattle.raft_log_cleaning.specs.Extents.{HasOnlyNew, MayClean};
 ghost use Rattle.raft_log_cleaning.specs.Told.{IsCleanedAnew};
-ghost use Rattle.raft_log_cleaning.specs.declared.cleaning.Extent.TheVariants.{All, Expired, Rewrites};
+ghost use Rattle.raft_log_cleaning.specs.Stale.{IsPurged};
+ghost use Rattle.raft_log_cleaning.specs.declared.cleaning.Extent.TheVariants.{All, Expired, Rewrites, Stale};
 ghost use Rattle.raft_log_cleaning.specs.declared.due.Due.{Due};
 ghost use Rattle.raft_log_disk.specs.Cause.{RefusesNoMore};
 ghost use Rattle.raft_log_memtables.specs.MemTables.{content_in};
@@ -37,12 +38,14 @@ pub enum Extent {
     Expired(Due),
     /// The rewrite queue, which is written anew.
     Rewrites,
+    /// All files of both queues that nothing needs, whatever they hold.
+    Stale,
 }
 
 /// What a cleaning did.
 #[derive(Drop)]
 pub struct Cleaned {
-    /// So many append files went, where all was to be cleaned.
+    /// So many append files went, where all was to be cleaned or all that is stale was to go.
     pub went: u64,
     /// These groups are told to compact.
     pub told: Vec<u64>,
@@ -55,17 +58,18 @@ pub fn may_clean(extent: Extent, log: &TracedTables) -> bool
     match extent {
         Extent::All => !log.has_marked,
         Extent::Expired(due) => !log.has_marked && !(due.rewrites && log.is_parted),
-        Extent::Rewrites => !log.has_marked && !log.is_parted,
+        Extent::Rewrites | Extent::Stale => !log.has_marked && !log.is_parted,
     }
 }
 
-/// Writes anew to the rewrite queue what counts in the append files, up to the last one that is
+/// Writes to the rewrite queue what this step does of the append files, up to the last one that is
 /// written, and lets those go that are needed no more. Answers how many went.
 fn clean_all<F: FileSystem>(
     manager: &PurgeManager,
     files: &mut F,
     pipes: &mut DualPipes,
     log: &mut TracedTables,
+    step: RewriteStep,
     barrier: Option<FileSeq>,
 ) -> Result<u64, Error>
     requires { CanCleanSome (F.disk files.old) pipes.old log.old }
@@ -77,11 +81,37 @@ fn clean_all<F: FileSystem>(
     ensures count { IfOk result (λ n. first_of pipes.old.append + n ≡ first_of pipes.new.append) }
     ensures later { RefusesNoMore (F.is_bounded files.old) (F.is_bounded files.new) (F.meter files.old) (F.meter files.new) }
 {
-    let step = RewriteStep::Rewrites;
     if let Err(error) = manager.must_rewrite_append_queue(files, pipes, log, None, step) {
         return Err(error);
     }
     manager.purge_append_files(files, pipes, log, barrier)
+}
+
+/// Lets all files of both queues go that nothing needs, whatever they hold. The rewrite queue is
+/// written anew, so none of its files of before is needed. Then groups get their marks, so that no
+/// append file stays for their sake. Answers how many append files went.
+fn purge_stale<F: FileSystem>(
+    alloc: Global,
+    manager: &PurgeManager,
+    files: &mut F,
+    pipes: &mut DualPipes,
+    log: &mut TracedTables,
+    barrier: Option<FileSeq>,
+) -> Result<u64, Error>
+    requires can { CanCleanSome (F.disk files.old) pipes.old log.old }
+    requires together { log.old.is_parted ≡ false }
+    ensures cleans { Cleans (F.disk files.old) pipes.old log.old (F.disk files.new) pipes.new log.new result }
+    ensures both { OnOk result (KeepBoth (F.disk files.old) pipes.old (F.disk files.new) pipes.new) }
+    ensures stands { OnErr result (IsLeftStanding (F.disk files.old) pipes.old log.old (F.disk files.new) pipes.new) }
+    ensures barrier { OnOk result (KeepsFromBarrier barrier pipes.old pipes.new) }
+    ensures purged { OnOk result (IsPurged (F.disk files.old) pipes.old log.old barrier (F.disk files.new) pipes.new log.new) }
+    ensures count { IfOk result (λ n. first_of pipes.old.append + n ≡ first_of pipes.new.append) }
+    ensures later { RefusesNoMore (F.is_bounded files.old) (F.is_bounded files.new) (F.meter files.old) (F.meter files.new) }
+{
+    if let Err(error) = write_anew(alloc, files, pipes, log) {
+        return Err(error);
+    }
+    clean_all(manager, files, pipes, log, RewriteStep::Marks, barrier)
 }
 
 /// Cleans as much of the log as is asked for, and no append file goes from the barrier on. After an
@@ -104,7 +134,9 @@ pub fn clean<F: FileSystem>(
     ensures gone { extent ≡ All → OnOk result (GoesToNeeded (traces_in log.new.traces) barrier pipes.old.append pipes.new.append) }
     ensures expired { (due : Due) → extent ≡ Expired due → IsLarge (queue_of pipes.old.append) manager.old.purge_threshold
         → OnOk result (GoesToNeeded (traces_in log.new.traces) barrier pipes.old.append pipes.new.append) }
+    ensures stale { extent ≡ Stale → OnOk result (IsPurged (F.disk files.old) pipes.old log.old barrier (F.disk files.new) pipes.new log.new) }
     ensures count { extent ≡ All → IfOk result (λ done. first_of pipes.old.append + done.went ≡ first_of pipes.new.append) }
+    ensures stale_count { extent ≡ Stale → IfOk result (λ done. first_of pipes.old.append + done.went ≡ first_of pipes.new.append) }
     ensures anew { extent ≡ Rewrites → OnOk result (HasOnlyNew pipes.old pipes.new) }
     ensures begins_again { extent ≡ Rewrites → OnOk result (AreLive log.old log.new.written) }
     ensures told { (due : Due) → extent ≡ Expired due → due.rewrites ≡ false → IsLarge (queue_of pipes.old.append) manager.old.purge_threshold
@@ -113,10 +145,11 @@ pub fn clean<F: FileSystem>(
         (F.disk files.new) pipes.new log.new manager.new.reports done.told.items) }
     ensures rising { IfOk result (λ done. IsStrictlySortedBy nat_cmp done.told.items) }
     ensures there { IfOk result (λ done. (group : ℕ) → is_among done.told.items group ≡ true → (content_in log.old.tables group).there ≡ true) }
+    ensures threshold { manager.new.purge_threshold ≡ manager.old.purge_threshold }
     ensures later { RefusesNoMore (F.is_bounded files.old) (F.is_bounded files.new) (F.meter files.old) (F.meter files.new) }
 {
     match extent {
-        Extent::All => match clean_all(manager, files, pipes, log, barrier) {
+        Extent::All => match clean_all(manager, files, pipes, log, RewriteStep::Rewrites, barrier) {
             Ok(went) => Ok(Cleaned {
                 went,
                 told: Vec::new(alloc),
@@ -132,6 +165,13 @@ pub fn clean<F: FileSystem>(
         Extent::Rewrites => match write_anew(alloc, files, pipes, log) {
             Ok(()) => Ok(Cleaned {
                 went: 0,
+                told: Vec::new(alloc),
+            }),
+            Err(error) => Err(error),
+        },
+        Extent::Stale => match purge_stale(alloc, manager, files, pipes, log, barrier) {
+            Ok(went) => Ok(Cleaned {
+                went,
                 told: Vec::new(alloc),
             }),
             Err(error) => Err(error),

@@ -115,6 +115,7 @@ fn purge_appends<F: FileSystem>(
     ensures there { ((group : ℕ) → is_named many group ≡ true → (content_in log.old.tables group).there ≡ true)
         → IfOk result (λ told. (group : ℕ) → is_among told.items group ≡ true → (content_in log.old.tables group).there ≡ true) }
     ensures told { IfOk result (λ told. IsToldBehind manager.old pipes.old log.old manager.new.reports (is_named many) told.items) }
+    ensures threshold { manager.new.purge_threshold ≡ manager.old.purge_threshold }
     ensures later { RefusesNoMore (F.is_bounded files.old) (F.is_bounded files.new) (F.meter files.old) (F.meter files.new) }
 {
     let told = manager.purge_expired_files(files, pipes, log, barrier)?;
@@ -143,6 +144,7 @@ fn purge_both<F: FileSystem>(
     ensures rising { IfOk result (λ told. IsStrictlySortedBy nat_cmp told.items) }
     ensures there { IfOk result (λ told. (group : ℕ) → is_among told.items group ≡ true → (content_in log.old.tables group).there ≡ true) }
     ensures anew { IfOk result (λ told. IsCleanedAnew (F.disk files.old) pipes.old log.old manager.old (F.disk files.new) pipes.new log.new manager.new.reports told.items) }
+    ensures threshold { manager.new.purge_threshold ≡ manager.old.purge_threshold }
     ensures later { RefusesNoMore (F.is_bounded files.old) (F.is_bounded files.new) (F.meter files.old) (F.meter files.new) }
 {
     let many = write_and_tell(alloc, files, pipes, log)?;
@@ -173,6 +175,7 @@ pub(crate) fn purge_expired<F: FileSystem>(
         (F.disk files.new) pipes.new log.new manager.new.reports told.items) }
     ensures told { due.rewrites ≡ false → IsLarge (queue_of pipes.old.append) manager.old.purge_threshold
         → IfOk result (λ told. AreTold log.old (marks_of_pipe pipes.old.append) manager.old.reports manager.new.reports told.items) }
+    ensures threshold { manager.new.purge_threshold ≡ manager.old.purge_threshold }
     ensures later { RefusesNoMore (F.is_bounded files.old) (F.is_bounded files.new) (F.meter files.old) (F.meter files.new) }
 {
     if due.rewrites {

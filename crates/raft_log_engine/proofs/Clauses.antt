@@ -36,6 +36,7 @@ use Rattle.raft_log_blocks.proofs.HeldLemmas.{answered, held_answered, held_kept
 use Rattle.raft_log_engine.proofs.Tables.{more_content, more_tabled}
 use Rattle.raft_log_engine.proofs.Traced.{IsNoted, more_traced}
 use Rattle.raft_log_traces.specs.declared.group_traces.GroupTraces.{GroupTraces}
+use Rattle.raft_log_traced.specs.declared.traced.TracedTables.{TracedTables}
 
 abbrev Seen : Type 0
 Seen = Content (List ℕ)
@@ -105,8 +106,19 @@ any_elsewhere items old new any left may = (left, any left, λ group un. refl)
 
 -- ---- the exits of a write
 
-abbrev pub parts : {F : Type 0} → F → DualPipes → MemTables → Bool → Bool → ℕ → Parts F
-parts files p tables is_stopped wrote_unsynced reads = record { files = files; pipes = p; tables = tables; is_stopped = is_stopped; wrote_unsynced = wrote_unsynced; block_reads = reads }
+abbrev pub parts : {F : Type 0} → F → DualPipes → MemTables → Bool → Bool → ℕ → TracedTables → ℕ → Parts F
+parts files p tables is_stopped wrote_unsynced reads traced threshold = record {
+  files = files;
+  pipes = p;
+  tables = tables;
+  is_stopped = is_stopped;
+  wrote_unsynced = wrote_unsynced;
+  block_reads = reads;
+  traces = traced.traces;
+  has_marked = traced.has_marked;
+  is_parted = traced.is_parted;
+  purge_threshold = threshold;
+}
 
 module _ {F : Type 0} (disk : F → Disk) (old : Parts F) where
   abbrev pub KeptBy : Type 0
@@ -146,13 +158,13 @@ module _ {F : Type 0} (disk : F → Disk) (old : Parts F) where
       ∙ ap (after_batch items) (sym (held_answered (disk old.files) old.pipes old.tables r s u held))
 
   -- the append or what follows it failed
-  pub failed : KeptBy → old.wrote_unsynced ≡ false → (files : F) (p : DualPipes) (tables : MemTables) (seen : Seen) (items : Batch) → list_any holds_mark items ≡ false
+  pub failed : KeptBy → old.wrote_unsynced ≡ false → (files : F) (p : DualPipes) (tables : MemTables) (traced : TracedTables) (threshold : ℕ) (seen : Seen) (items : Batch) → list_any holds_mark items ≡ false
       → IsAsBefore old.pipes.rewrite (disk old.files) p.rewrite (disk files)
       → ((s u : Numbered) → Holds old.pipes.append (disk old.files) s u → LeavesAppended p.append (disk files) s u items)
-      → MayBeWritten (IsSound (parts files p tables true old.wrote_unsynced old.block_reads)) seen (MayLeave (disk files) p true old.wrote_unsynced seen) (answers_on disk old) (after_batch items (answers_on disk old))
-  failed kept all files p tables seen items plain other leaves =
+      → MayBeWritten (IsSound (parts files p tables true old.wrote_unsynced old.block_reads traced threshold)) seen (MayLeave (disk files) p true old.wrote_unsynced seen) (answers_on disk old) (after_batch items (answers_on disk old))
+  failed kept all files p tables traced threshold seen items plain other leaves =
       let left = leaves kept.1 [] kept.2.append in
-      torn (disk files) p old.wrote_unsynced (IsSound (parts files p tables true old.wrote_unsynced old.block_reads)) (λ sound. false≢true (sym sound.goes_on)) all seen (answers_on disk old) (after_batch items (answers_on disk old))
+      torn (disk files) p old.wrote_unsynced (IsSound (parts files p tables true old.wrote_unsynced old.block_reads traced threshold)) (λ sound. false≢true (sym sound.goes_on)) all seen (answers_on disk old) (after_batch items (answers_on disk old))
       kept.0 kept.1 ((left.0, items) ∷ [])
       (holds_leaves p.rewrite.queue p.rewrite.older.items p.rewrite.active p.rewrite.writer.offset (disk files) kept.0 [] (other.holds kept.0 [] kept.2.rewrite)) left.1
       (last_or_not kept.0 kept.1 left.0 items (answers_on disk old) (after_batch items (answers_on disk old)) (sym (answered (disk old.files) old.pipes old.tables kept.0 kept.1 kept.2))

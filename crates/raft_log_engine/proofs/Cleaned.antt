@@ -1,6 +1,6 @@
 -- A cleaning of an engine's log: what it begins with, what it leaves after `Ok`, and what a crash leaves of one that was refused.
-use Rattle.std.proofs.Common.{◌≡◌, ◌⊎◌, ℕ, ◌+◌, ◌-◌, length, Bool, true, false, List, [], ◌∷◌, ◌++◌, take, refl, sym, ap, subst, ◌∙◌}
-use Rattle.std.specs.Prelude.{Result, Ok, Err, OnOk, OnErr}
+use Rattle.std.proofs.Common.{◌≡◌, ◌⊎◌, ℕ, ◌+◌, ◌-◌, ◌*◌, ◌^◌, length, Bool, true, false, List, [], ◌∷◌, ◌++◌, take, refl, sym, ap, subst, ◌∙◌}
+use Rattle.std.specs.Prelude.{Option, Result, Ok, Err, OnOk, OnErr, min}
 use Rattle.std.proofs.lemmas.Bool.{false≢true}
 use Rattle.std.proofs.lemmas.List.{append-nil, map-append}
 use Rattle.std.proofs.Math.Seq.{take-nil}
@@ -35,7 +35,13 @@ use Rattle.raft_log_pipes.specs.Pipes.{pipe_of}
 use Rattle.raft_log_cleaner.specs.Cleaning.{CanClean, LeavesContent, LeavesStanding}
 use Rattle.raft_log_cleaner.specs.Facts.{TellEntries}
 use Rattle.raft_log_cleaner.specs.Pipes.{HasHoleBefore, KeepBoth}
+use Rattle.raft_log_cleaner.specs.Told.{queue_of}
 use Rattle.raft_log_cleaner.proofs.Telling.{tells_so}
+use Rattle.raft_log_covers.specs.Kept.{Traces}
+use Rattle.raft_log_covers.specs.Trace.{greater}
+use Rattle.raft_log_purge.specs.declared.due.QueueFiles.{QueueFiles}
+use Rattle.raft_log_purge.specs.Due.{IsLarge}
+use Rattle.raft_log_purge.specs.Going.{GoesToNeeded}
 use Rattle.raft_log_cleaning.specs.Extents.{HasOnlyNew}
 use Rattle.raft_content_log.specs.Leaving.{LeavesNoMore}
 use Rattle.raft_log_engine.specs.declared.block_cache.BlockCache.{BlockCache}
@@ -233,6 +239,21 @@ both_stand d e p q kept alone = record {
 pub same_first : (p q : SinglePipe) → (q.active ≡ p.active) × (q.older ≡ p.older) → first_of q ≡ first_of p
 same_first p q same i = (same.0 i).seq - length (same.1 i).items
 
+-- its files are as large
+same_queue : (p q : SinglePipe) → (q.active ≡ p.active) × (q.older ≡ p.older) → q.target_file_size ≡ p.target_file_size → queue_of q ≡ queue_of p
+same_queue p q same target i = record {
+  first = (same.0 i).seq - length (same.1 i).items;
+  active = (same.0 i).seq;
+  size = min ((length (same.1 i).items + 1) * target i) (2 ^ 64 - 1);
+}
+
+pub large_still : (p q : SinglePipe) (threshold : ℕ) → (q.active ≡ p.active) × (q.older ≡ p.older) → q.target_file_size ≡ p.target_file_size → IsLarge (queue_of p) threshold → IsLarge (queue_of q) threshold
+large_still p q threshold same target = subst (λ (files : QueueFiles). IsLarge files threshold) (sym (same_queue p q same target))
+
+-- files that went of a pipe with the same ones
+pub gone_since : (traces : Traces) (barrier : Option ℕ) (p q r : SinglePipe) → (q.active ≡ p.active) × (q.older ≡ p.older) → GoesToNeeded traces barrier q r → GoesToNeeded traces barrier p r
+gone_since traces barrier p q r same went = (went.0, went.1, went.2 ∙ ap (λ (n : ℕ). greater n went.0) (same_first p q same))
+
 pub only_new_since : (p q r : DualPipes) → (q.append.active ≡ p.append.active) × (q.append.older ≡ p.append.older) → q.rewrite ≡ p.rewrite → HasOnlyNew q r → HasOnlyNew p r
 only_new_since p q r same rewrite new = record {
   rewrite = new.rewrite ∙ ap (λ (x : SinglePipe). x.active.seq + 1) rewrite;
@@ -260,7 +281,7 @@ module _ {F : Type 0} (disk : F → Disk) (old : Parts F) (held : HeldBy disk ol
           (sym (only_left (disk files) p traced.tables is_stopped false can.rewrites can.appends (cleaned_kept (disk files) p traced (answers_on disk old) can) refl left may ∙ cleaned_seen (disk files) p traced (answers_on disk old) can))
           (is_left (disk old.files) old.pipes old.tables old.is_stopped old.wrote_unsynced kept.0 kept.1 kept.2 goes_on)
 
-  pub cleaned_written : (reads : ℕ) → HasWritten disk (parts files p traced.tables is_stopped false reads) (seen_on (disk files) p traced.tables) []
-  cleaned_written reads =
-      nothing_since disk (parts files p traced.tables is_stopped false reads) can.rewrites can.appends can.rewrite can.append (seen_on (disk files) p traced.tables)
+  pub cleaned_written : (reads threshold : ℕ) → HasWritten disk (parts files p traced.tables is_stopped false reads traced threshold) (seen_on (disk files) p traced.tables) []
+  cleaned_written reads threshold =
+      nothing_since disk (parts files p traced.tables is_stopped false reads traced threshold) can.rewrites can.appends can.rewrite can.append (seen_on (disk files) p traced.tables)
       (answered (disk files) p traced.tables can.rewrites can.appends (cleaned_kept (disk files) p traced (answers_on disk old) can))

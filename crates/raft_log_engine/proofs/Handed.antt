@@ -1,6 +1,5 @@
 -- A recovery into one machine whose batches another one replays.
-use Rattle.std.proofs.Common.{◌≡◌, inr, List, Result, Ok, Err, refl, sym, subst, ◌∙◌, ap}
-use Rattle.std.proofs.lemmas.Bool.{false≢true}
+use Rattle.std.proofs.Common.{◌≡◌, inr, List, Result, Ok, Err, refl, subst}
 use Rattle.std.proofs.lemmas.Result.{err_from_is_err_and}
 use Rattle.std.specs.Prelude.{IsErrAnd, Vec}
 use Rattle.std.specs.declared.alloc.Global.{Global}

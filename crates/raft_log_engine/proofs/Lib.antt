@@ -27,3 +27,5 @@ pub mod Caused
 pub mod Unopened
 pub mod Cleaned
 pub mod Handed
+pub mod Barred
+pub mod KeptFiles

@@ -10,7 +10,7 @@ use Rattle.raft_log_records.specs.Item.Change.{entries, clean, compact, put, del
 use Rattle.raft_log_records.specs.Spelling.{IsChange, IsConsecutive, IsItem, first_index, lengths}
 use Rattle.raft_log_file.specs.Laws.{Batch}
 use Rattle.raft_log_memtables.specs.Content.{entry_at}
-use Rattle.raft_log_marks.specs.Whole.{FollowOneAnother, Follows}
+use Rattle.raft_log_marks.specs.Whole.{Follows}
 use Rattle.raft_log_marks.proofs.MappedLemmas.{first_mapped, none_before, some_before}
 
 record IsRunFrom (next : ℕ) (es : List (ℕ × ℕ)) : Type 0 where

@@ -1,17 +1,15 @@
 -- Entries lie where their traces say, also those of one more batch.
-use Rattle.std.proofs.Common.{◌≡◌, ℕ, ◌+◌, ◌<◌, ◌≤◌, Bool, true, false, cond, List, [], ◌∷◌, ◌++◌, length, map, Option, Some, None, refl, sym, ap, subst, ◌∙◌, arith, append_assoc, ltb-true, ltb-false}
+use Rattle.std.proofs.Common.{◌≡◌, ℕ, ◌+◌, ◌<◌, ◌≤◌, Bool, true, false, cond, List, [], ◌∷◌, ◌++◌, length, map, Option, Some, None, refl, sym, ap, subst, ◌∙◌, arith, ltb-true, ltb-false}
 use Rattle.std.specs.Prelude.{IsSome, nat_eq, nat_le, nat_lt}
 use Rattle.std.specs.List.{AllByRecursion}
-use Rattle.std.specs.Option.{option_map}
-use Rattle.std.proofs.lemmas.Bool.{leb-false}
 use Rattle.raft_log_records.specs.declared.file_id.FileBlockHandle.{FileBlockHandle}
 use Rattle.raft_log_records.specs.declared.file_id.LogQueue.{LogQueue}
-use Rattle.raft_log_records.specs.declared.file_id.LogQueue.TheVariants.{Append, Rewrite}
+use Rattle.raft_log_records.specs.declared.file_id.LogQueue.TheVariants.{Append}
 use Rattle.raft_log_records.specs.declared.item.AtomicGroupStatus.{AtomicGroupStatus}
 use Rattle.raft_log_records.specs.declared.item.EntryIndex.{EntryIndex}
 use Rattle.raft_log_records.specs.Item.{Change, Item, change_map, item_map, with_lengths}
 use Rattle.raft_log_records.specs.Item.Change.{entries, clean, compact, put, delete, mark}
-use Rattle.raft_log_records.specs.Spelling.{IsItem, first_index}
+use Rattle.raft_log_records.specs.Spelling.{first_index}
 use Rattle.raft_log_memtables.specs.Content.{Content, GroupContent, after_batch, after_change, after_item, entry_at}
 use Rattle.raft_log_memtables.specs.ContentLaws.{content_map}
 use Rattle.raft_log_memtables.specs.Entries.{placed_in}
@@ -33,7 +31,6 @@ use Rattle.raft_log_marks.specs.Whole.{Follows}
 use Rattle.raft_log_marks.proofs.MappedLemmas.{first_mapped, none_before}
 use Rattle.raft_log_marks.proofs.StandingLemmas.{writes_leave_cleanable}
 use Rattle.raft_log_engine.proofs.Tables.{put_lengths}
-use Rattle.raft_log_engine.proofs.Runs.{follow_all}
 
 -- the last batch may have other items
 pub rise_last : {E : Type 0} (least : ℕ) (bs : List (Filed E)) (b c : Filed E) → c.file ≡ b.file → FilesRise least (bs ++ b ∷ []) → FilesRise least (bs ++ c ∷ [])

@@ -1,5 +1,5 @@
 -- Why an opening is refused: errors and their causes.
-use Rattle.std.proofs.Common.{◌≡◌, inl, inr, ℕ, zero, suc, ◌+◌, ◌-◌, ◌<◌, true, cond, List, [], ◌∷◌, ◌++◌, length, Option, Some, None, refl, sym, ap, subst, ◌∙◌, arith}
+use Rattle.std.proofs.Common.{◌≡◌, inl, inr, ℕ, zero, suc, ◌<◌, true, cond, List, [], ◌∷◌, ◌++◌, length, Option, Some, None, refl, sym, ap, subst, ◌∙◌, arith}
 use Rattle.std.specs.Prelude.{Result, Ok, Err, IfErr, IsOk, MatchOption, is_some}
 use Rattle.std.proofs.lemmas.Bool.{false≢true}
 use Rattle.raft_log_records.specs.declared.file_id.LogQueue.{LogQueue}

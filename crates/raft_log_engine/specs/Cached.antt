@@ -4,7 +4,6 @@ use Rattle.std.specs.declared.alloc.Global.{Global}
 use Rattle.lru.specs.LruCache.{LruCache}
 use Rattle.raft_log_records.specs.declared.file_id.FileBlockHandle.{FileBlockHandle}
 use Rattle.raft_log_records.specs.declared.item.EntryIndex.{EntryIndex}
-use Rattle.raft_log_records.specs.Spelling.{block_of}
 use Rattle.raft_log_disk.specs.Disk.{Disk}
 use Rattle.raft_log_pipe.specs.Pipe.{Numbered}
 use Rattle.raft_log_pipes.specs.declared.pipes.DualPipes.{DualPipes}
@@ -12,7 +11,7 @@ use Rattle.raft_log_traced.specs.declared.traced.TracedTables.{TracedTables}
 use Rattle.raft_log_engine.specs.declared.block_cache.BlockCache.{BlockCache}
 use Rattle.raft_log_engine.specs.declared.block_cache.BlockKey.{BlockKey}
 use Rattle.raft_log_blocks.specs.Blocks.{IsReadAs}
-use Rattle.raft_log_blocks.specs.Held.{ReadsBlocks, HoldsBatches, LiesIn}
+use Rattle.raft_log_blocks.specs.Held.{ReadsBlocks, HoldsBatches}
 use Rattle.raft_log_engine.specs.Traced.{IsTraced}
 
 abbrev pub KeepsIn : Option (LruCache BlockKey (Vec ℕ Global)) → FileBlockHandle → List ℕ → Type 0

@@ -14,3 +14,5 @@ pub mod Caused
 pub mod Closing
 pub mod Still
 pub mod Unopened
+pub mod Barred
+pub mod Listening

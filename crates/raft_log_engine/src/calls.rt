@@ -49,6 +49,7 @@ impl<F: FileSystem + Drop> Engine<F> {
         ensures sound { IsSound self.old → OnOk result (sync ≡ true → IsSound self.new) }
         ensures paths { self.new.pipes.append.paths ≡ self.old.pipes.append.paths }
         ensures set { KeepSettings self.old.pipes self.new.pipes }
+        ensures threshold { self.new.purge_threshold ≡ self.old.purge_threshold }
         ensures alone { StandsAlone F.disk self.old → OnOk result (StandsAlone F.disk self.new) }
         ensures opens { StandsAlone F.disk self.old → OnOk result (sync ≡ true → OpensAs (directories_of_engine self.new) (F.disk self.new.files) (answers_on F.disk self.new)) }
         ensures opens_in_tail { self.old.is_stopped ≡ false → StandsAlone F.disk self.old → OpensInTail (directories_of_engine self.new) (F.disk self.new.files) self.new.pipes }
@@ -109,6 +110,7 @@ impl<F: FileSystem + Drop> Engine<F> {
         ensures left { LeavesNoMore (leaves_on F.disk self.old) (leaves_on F.disk self.new) }
         ensures paths { self.new.pipes.append.paths ≡ self.old.pipes.append.paths }
         ensures set { KeepSettings self.old.pipes self.new.pipes }
+        ensures threshold { self.new.purge_threshold ≡ self.old.purge_threshold }
         ensures alone { StandsAlone F.disk self.old → StandsAlone F.disk self.new }
         ensures opens { StandsAlone F.disk self.old → OnOk result (OpensAs (directories_of_engine self.new) (F.disk self.new.files) (answers_on F.disk self.new)) }
         ensures opens_still { IsSound self.old → StandsAlone F.disk self.old → OpensAs (directories_of_engine self.new) (F.disk self.new.files) (answers_on F.disk self.old) }

@@ -4,10 +4,12 @@ ghost use Rattle.std.specs.Ordering.{nat_cmp};
 ghost use Rattle.std.specs.Prelude.{◌≡◌, ◌⊎◌, ◌+◌, ℕ, List, [], ◌++◌, true, false, Err, IfErr, IfOk, IsOk, IsOkAnd, OnOk, OnErr};
 ghost use Rattle.raft_content_log.specs.Leaving.{LeavesNoMore};
 ghost use Rattle.raft_log_cleaner.specs.Cleaning.{KeepsFromBarrier};
-ghost use Rattle.raft_log_cleaner.specs.Told.{is_among};
+ghost use Rattle.raft_log_cleaner.specs.Told.{is_among, queue_of};
 ghost use Rattle.raft_log_cleaning.specs.Extents.{HasOnlyNew};
-ghost use Rattle.raft_log_cleaning.specs.declared.cleaning.Extent.TheVariants.{All, Rewrites};
+ghost use Rattle.raft_log_cleaning.specs.declared.cleaning.Extent.TheVariants.{All, Expired, Rewrites, Stale};
+ghost use Rattle.raft_log_cleaning.specs.declared.due.Due.{Due};
 ghost use Rattle.raft_log_disk.specs.Cause.{RefusesNoMore};
+ghost use Rattle.raft_log_engine.specs.Barred.{IsBarred};
 ghost use Rattle.raft_log_engine.specs.Left.{IsSound, answers_on, leaves_on};
 ghost use Rattle.raft_log_engine.specs.Reopened.{OpensAs, OpensInTail, StandsAlone, StandsInTail, directories_of_engine};
 ghost use Rattle.raft_log_engine.specs.Since.{HasWritten};
@@ -16,12 +18,15 @@ ghost use Rattle.raft_log_engine.specs.declared.fault.EngineFault.TheVariants.{M
 ghost use Rattle.raft_log_memtables.specs.MemTables.{content_in};
 ghost use Rattle.raft_log_pipe.specs.Pipe.{Holds, IsPipe, Numbered, first_of};
 ghost use Rattle.raft_log_pipes.specs.Kept.{KeepSettings};
+ghost use Rattle.raft_log_purge.specs.Due.{IsLarge};
+ghost use Rattle.raft_log_purge.specs.Going.{GoesToNeeded};
+ghost use Rattle.raft_log_traces.specs.GroupTraces.{traces_in};
 
 use crate::engine::Engine;
 use crate::fault::EngineFault;
 use crate::memory::MemoryLog;
 use raft_content_log::CleanLog;
-use raft_log_cleaning::{Cleaned, Extent, clean, due_of, may_clean};
+use raft_log_cleaning::{Cleaned, Due, Extent, clean, due_of, may_clean};
 use raft_log_files::{Error, FileSystem};
 use raft_log_pipes::DualPipes;
 use raft_log_records::{FileSeq, LogQueue};
@@ -49,7 +54,11 @@ fn sync_unsynced<F: FileSystem>(
 
 impl<F: FileSystem + Drop> Engine<F> {
     /// Cleans as much of the log as is asked for, as `clean_append_queue` says (own).
-    fn clean_by(&mut self, extent: Extent, barrier: Option<FileSeq>) -> Result<Cleaned, EngineFault>
+    pub(crate) fn clean_by(
+        &mut self,
+        extent: Extent,
+        barrier: Option<FileSeq>,
+    ) -> Result<Cleaned, EngineFault>
         ensures answers { OnOk result (answers_on F.disk self.new ≡ answers_on F.disk self.old) }
         ensures goes_on { self.new.is_stopped ≡ false → answers_on F.disk self.new ≡ answers_on F.disk self.old }
         ensures sound { OnOk result (IsSound self.new) }
@@ -62,14 +71,21 @@ impl<F: FileSystem + Drop> Engine<F> {
         ensures opens_in_tail { self.old.is_stopped ≡ false → StandsAlone F.disk self.old → OpensInTail (directories_of_engine self.new) (F.disk self.new.files) self.new.pipes }
         ensures goes_on_in_tail { StandsAlone F.disk self.old → self.new.is_stopped ≡ false → StandsInTail F.disk self.new }
         ensures barrier { OnOk result (KeepsFromBarrier barrier self.old.pipes self.new.pipes) }
+        ensures gone { extent ≡ All → OnOk result (GoesToNeeded (traces_in self.new.traces) barrier self.old.pipes.append self.new.pipes.append) }
+        ensures stale { extent ≡ Stale → OnOk result (GoesToNeeded (traces_in self.new.traces) barrier self.old.pipes.append self.new.pipes.append) }
+        ensures expired { (due : Due) → extent ≡ Expired due → IsLarge (queue_of self.old.pipes.append) self.old.purge_threshold
+            → OnOk result (GoesToNeeded (traces_in self.new.traces) barrier self.old.pipes.append self.new.pipes.append) }
         ensures count { extent ≡ All → IfOk result (λ done. first_of self.old.pipes.append + done.went ≡ first_of self.new.pipes.append) }
+        ensures stale_count { extent ≡ Stale → IfOk result (λ done. first_of self.old.pipes.append + done.went ≡ first_of self.new.pipes.append) }
         ensures anew { extent ≡ Rewrites → OnOk result (HasOnlyNew self.old.pipes self.new.pipes) }
         ensures rising { IfOk result (λ done. IsStrictlySortedBy nat_cmp done.told.items) }
         ensures there { IfOk result (λ done. (group : ℕ) → is_among done.told.items group ≡ true → (content_in self.old.tables group).there ≡ true) }
         ensures all_written { OnOk result (HasWritten F.disk self.new (answers_on F.disk self.new) []) }
+        ensures threshold { self.new.purge_threshold ≡ self.old.purge_threshold }
         ensures reads { self.new.block_reads ≡ self.old.block_reads }
         ensures stopped { self.old.is_stopped ≡ true → result ≡ Err Stopped }
         ensures marked { result ≡ Err Marked → self.new ≡ self.old }
+        ensures barred { result ≡ Err Marked → IsBarred extent self.old }
         ensures stops { IfErr result (λ fault. (fault ≡ Marked) ⊎ (self.new.is_stopped ≡ true)) }
         ensures later { RefusesNoMore (F.is_bounded self.old.files) (F.is_bounded self.new.files) (F.meter self.old.files) (F.meter self.new.files) }
     {
@@ -105,7 +121,7 @@ impl<F: FileSystem + Drop> Engine<F> {
     }
 
     /// Cleans the append queue (own, of what raft-engine's `purge_expired_files` does): what counts in
-    /// its files is written anew to the rewrite queue, and those go that are needed no more, but none
+    /// its files is written anew to the rewrite queue, and all those go that are needed no more, but none
     /// from the barrier on, the least file that somebody else keeps. Answers how many went. Writes that
     /// weren't synced are synced before. The content stays, whatever is refused. `Marked`, with nothing
     /// done: an opening found a batch of the append queue that belongs to an atomic group. After any
@@ -123,11 +139,14 @@ impl<F: FileSystem + Drop> Engine<F> {
         ensures opens_in_tail { self.old.is_stopped ≡ false → StandsAlone F.disk self.old → OpensInTail (directories_of_engine self.new) (F.disk self.new.files) self.new.pipes }
         ensures goes_on_in_tail { StandsAlone F.disk self.old → self.new.is_stopped ≡ false → StandsInTail F.disk self.new }
         ensures barrier { OnOk result (KeepsFromBarrier barrier self.old.pipes self.new.pipes) }
+        ensures gone { OnOk result (GoesToNeeded (traces_in self.new.traces) barrier self.old.pipes.append self.new.pipes.append) }
         ensures count { IfOk result (λ n. first_of self.old.pipes.append + n ≡ first_of self.new.pipes.append) }
         ensures all_written { OnOk result (HasWritten F.disk self.new (answers_on F.disk self.new) []) }
+        ensures threshold { self.new.purge_threshold ≡ self.old.purge_threshold }
         ensures reads { self.new.block_reads ≡ self.old.block_reads }
         ensures stopped { self.old.is_stopped ≡ true → result ≡ Err Stopped }
         ensures marked { result ≡ Err Marked → self.new ≡ self.old }
+        ensures barred { result ≡ Err Marked → IsBarred All self.old }
         ensures stops { IfErr result (λ fault. (fault ≡ Marked) ⊎ (self.new.is_stopped ≡ true)) }
         ensures later { RefusesNoMore (F.is_bounded self.old.files) (F.is_bounded self.new.files) (F.meter self.old.files) (F.meter self.new.files) }
     {
@@ -158,9 +177,11 @@ impl<F: FileSystem + Drop> Engine<F> {
         ensures goes_on_in_tail { StandsAlone F.disk self.old → self.new.is_stopped ≡ false → StandsInTail F.disk self.new }
         ensures anew { OnOk result (HasOnlyNew self.old.pipes self.new.pipes) }
         ensures all_written { OnOk result (HasWritten F.disk self.new (answers_on F.disk self.new) []) }
+        ensures threshold { self.new.purge_threshold ≡ self.old.purge_threshold }
         ensures reads { self.new.block_reads ≡ self.old.block_reads }
         ensures stopped { self.old.is_stopped ≡ true → result ≡ Err Stopped }
         ensures marked { result ≡ Err Marked → self.new ≡ self.old }
+        ensures barred { result ≡ Err Marked → IsBarred Rewrites self.old }
         ensures stops { IfErr result (λ fault. (fault ≡ Marked) ⊎ (self.new.is_stopped ≡ true)) }
         ensures later { RefusesNoMore (F.is_bounded self.old.files) (F.is_bounded self.new.files) (F.meter self.old.files) (F.meter self.new.files) }
     {
@@ -171,7 +192,65 @@ impl<F: FileSystem + Drop> Engine<F> {
     }
 }
 
+/// What is due, without a rewrite queue that is held.
+fn free_of(due: Due, is_held: bool) -> Due
+    ensures rewrites { result.rewrites ≡ true → (due.rewrites ≡ true) × (is_held ≡ false) }
+    ensures free { is_held ≡ false → result ≡ due }
+    ensures appends { result.appends ≡ due.appends }
+{
+    Due {
+        rewrites: due.rewrites && !is_held,
+        appends: due.appends,
+    }
+}
+
 impl<F: FileSystem + Drop> Engine<F> {
+    /// Cleans both queues where they are due, as `purge_expired_files` says. A rewrite queue that is
+    /// held isn't.
+    pub(crate) fn purge_due(
+        &mut self,
+        barrier: Option<FileSeq>,
+        is_held: bool,
+    ) -> Result<Vec<u64>, EngineFault>
+        ensures rising { IfOk result (λ groups. IsStrictlySortedBy nat_cmp groups.items) }
+        ensures there { IfOk result (λ groups. (group : ℕ) → is_among groups.items group ≡ true → (content_in self.old.tables group).there ≡ true) }
+        ensures answers { OnOk result (answers_on F.disk self.new ≡ answers_on F.disk self.old) }
+        ensures sound { IsSound self.old → OnOk result (IsSound self.new) }
+        ensures paths { self.new.pipes.append.paths ≡ self.old.pipes.append.paths }
+        ensures set { KeepSettings self.old.pipes self.new.pipes }
+        ensures alone { StandsAlone F.disk self.old → OnOk result (StandsAlone F.disk self.new) }
+        ensures opens_still { IsSound self.old → StandsAlone F.disk self.old → OpensAs (directories_of_engine self.new) (F.disk self.new.files) (answers_on F.disk self.old) }
+        ensures opens_in_tail { self.old.is_stopped ≡ false → StandsAlone F.disk self.old → OpensInTail (directories_of_engine self.new) (F.disk self.new.files) self.new.pipes }
+        ensures barrier { OnOk result (KeepsFromBarrier barrier self.old.pipes self.new.pipes) }
+        ensures few { self.old.is_stopped ≡ false → self.old.pipes.append.older.items ≡ [] → self.old.pipes.rewrite.older.items ≡ []
+            → IsOkAnd result (λ groups. groups.items ≡ []) × (self.new ≡ self.old) }
+        ensures expired { self.old.has_marked ≡ false → IsLarge (queue_of self.old.pipes.append) self.old.purge_threshold
+            → OnOk result (GoesToNeeded (traces_in self.new.traces) barrier self.old.pipes.append self.new.pipes.append) }
+        ensures threshold { self.new.purge_threshold ≡ self.old.purge_threshold }
+        ensures reads { self.new.block_reads ≡ self.old.block_reads }
+        ensures stopped { self.old.is_stopped ≡ true → result ≡ Err Stopped }
+        ensures stops { OnErr result (self.new.is_stopped ≡ true) }
+        ensures later { RefusesNoMore (F.is_bounded self.old.files) (F.is_bounded self.new.files) (F.meter self.old.files) (F.meter self.new.files) }
+    {
+        if self.is_stopped {
+            return Err(EngineFault::Stopped);
+        }
+        let none = Vec::new(self.alloc);
+        let Ok(due) = due_of(&self.manager, &self.pipes, &self.traced) else {
+            self.is_stopped = true;
+            return Err(EngineFault::Log(Error::Memory));
+        };
+        let Some(due) = due else {
+            return Ok(none);
+        };
+        let free = free_of(due, is_held);
+        match self.clean_by(Extent::Expired(free), barrier) {
+            Ok(done) => Ok(done.told),
+            Err(EngineFault::Marked) => Ok(none),
+            Err(fault) => Err(fault),
+        }
+    }
+
     /// Cleans both queues where they are due (raft-engine's `purge_expired_files`), and answers the groups
     /// that whoever writes them is told to compact, rising, each once.
     ///
@@ -203,27 +282,15 @@ impl<F: FileSystem + Drop> Engine<F> {
         ensures barrier { OnOk result (KeepsFromBarrier barrier self.old.pipes self.new.pipes) }
         ensures few { self.old.is_stopped ≡ false → self.old.pipes.append.older.items ≡ [] → self.old.pipes.rewrite.older.items ≡ []
             → IsOkAnd result (λ groups. groups.items ≡ []) × (self.new ≡ self.old) }
+        ensures expired { self.old.has_marked ≡ false → IsLarge (queue_of self.old.pipes.append) self.old.purge_threshold
+            → OnOk result (GoesToNeeded (traces_in self.new.traces) barrier self.old.pipes.append self.new.pipes.append) }
+        ensures threshold { self.new.purge_threshold ≡ self.old.purge_threshold }
         ensures reads { self.new.block_reads ≡ self.old.block_reads }
         ensures stopped { self.old.is_stopped ≡ true → result ≡ Err Stopped }
         ensures stops { OnErr result (self.new.is_stopped ≡ true) }
         ensures later { RefusesNoMore (F.is_bounded self.old.files) (F.is_bounded self.new.files) (F.meter self.old.files) (F.meter self.new.files) }
     {
-        if self.is_stopped {
-            return Err(EngineFault::Stopped);
-        }
-        let none = Vec::new(self.alloc);
-        let Ok(due) = due_of(&self.manager, &self.pipes, &self.traced) else {
-            self.is_stopped = true;
-            return Err(EngineFault::Log(Error::Memory));
-        };
-        let Some(due) = due else {
-            return Ok(none);
-        };
-        match self.clean_by(Extent::Expired(due), barrier) {
-            Ok(done) => Ok(done.told),
-            Err(EngineFault::Marked) => Ok(none),
-            Err(fault) => Err(fault),
-        }
+        self.purge_due(barrier, false)
     }
 }
 

@@ -31,14 +31,15 @@ pub struct Engine<F: FileSystem> {
 impl<F: FileSystem> Model for Engine<F> {
     ghost use Rattle.raft_log_engine.specs.Cached.{IsEngine};
     ghost use Rattle.raft_log_engine.specs.Parts.{Parts};
-    ghost use Rattle.raft_log_memtables.specs.contracts.memtables.MemTables.{the_row};
+    ghost use Rattle.raft_log_memtables.specs.contracts.memtables.MemTables as tables;
+    ghost use Rattle.raft_log_traces.specs.contracts.group_traces.GroupTraces as traces;
     ghost use Rattle.std.specs.Coded.{codes};
 
     ghost Value = { Parts F };
 
-    ghost coded = { Prim.hlevel (codes, the_row.coded) };
+    ghost coded = { Prim.hlevel (codes, tables.the_row.coded, traces.the_row.coded) };
 
-    ghost view = { λ e. record { files = e.files; pipes = e.pipes; tables = e.traced.tables; is_stopped = e.is_stopped; wrote_unsynced = e.wrote_unsynced; block_reads = e.blocks.reads } };
+    ghost view = { λ e. record { files = e.files; pipes = e.pipes; tables = e.traced.tables; is_stopped = e.is_stopped; wrote_unsynced = e.wrote_unsynced; block_reads = e.blocks.reads; traces = e.traced.traces; has_marked = e.traced.has_marked; is_parted = e.traced.is_parted; purge_threshold = e.manager.purge_threshold } };
 
     ghost invariant = { λ e. IsEngine (F.disk e.files) e.pipes e.traced e.is_stopped e.wrote_unsynced e.blocks };
 }

@@ -10,10 +10,13 @@ mod compaction;
 mod crashing;
 mod engine;
 mod fault;
+mod listening;
 mod memory;
 mod opening;
 mod reads;
 mod scans;
+mod stale;
+mod tools;
 mod ways;
 mod writing;
 

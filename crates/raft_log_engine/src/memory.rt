@@ -65,6 +65,7 @@ pub struct MemoryLog {
 impl Model for MemoryLog {
     ghost use Rattle.raft_log_engine.specs.Log.{IsLog, LogOn};
     ghost use Rattle.raft_log_memtables.specs.contracts.memtables.MemTables as tables;
+    ghost use Rattle.raft_log_traces.specs.contracts.group_traces.GroupTraces as traces;
     ghost use Rattle.raft_log_disk.specs.contracts.memory.MemoryFileSystem as files;
     ghost use Rattle.raft_log_disk.specs.MemorySystem.{disk_in};
     ghost use Rattle.raft_log_disk.specs.declared.memory.MemoryFileSystem.{MemoryFileSystem};
@@ -72,7 +73,7 @@ impl Model for MemoryLog {
 
     ghost Value = { LogOn MemoryFileSystem };
 
-    ghost coded = { Prim.hlevel (codes, tables.the_row.coded, files.the_row.coded) };
+    ghost coded = { Prim.hlevel (codes, tables.the_row.coded, traces.the_row.coded, files.the_row.coded) };
 
     ghost view = { λ l. record { engine = l.engine; settings = l.settings; has_failed = l.has_failed } };
 

@@ -167,6 +167,7 @@ impl<F: FileSystem + Drop> Engine<F> {
         ensures fresh { (F.disk files).names ≡ [] → IfOk result (λ e. answers_on F.disk e ≡ nothing) }
         ensures directories { IfOk result (λ e. directories_of_engine e ≡ directories_of (settings_of config)) }
         ensures settings { IfOk result (λ e. AreSetAs (settings_of config) e.pipes) }
+        ensures threshold { IfOk result (λ e. e.purge_threshold ≡ (settings_of config).purge_threshold.0) }
         ensures holes { IfOk result (λ e. HasHolesIn config.recovery_mode (F.disk e.files) e.pipes) }
         ensures alone { IfOk result (λ e. ((queue : LogQueue) → IsOnce (F.disk files).names (directories_of (settings_of config)) queue) → StandsAlone F.disk e) }
         ensures written { IfOk result (λ e. HasWritten F.disk e (answers_on F.disk e) []) }

@@ -1,6 +1,7 @@
 //! What each call of an engine answers.
 
 use crate::batches::batch_of;
+use crate::listeners::cleaned_with;
 use crate::messages::Text;
 use crate::scans::{Pair, pairs_in, range_of, texts_in};
 use raft_log_engine::{Engine, EngineFault};
@@ -34,6 +35,11 @@ pub enum Told {
     Removed(u64),
     /// A cleaning told these groups to compact, and whether a file went.
     Cleaned(Vec<u64>, bool),
+    /// A cleaning told these groups to compact, and each of two listeners of the last file of the append
+    /// queue and of the rewrite queue that went, 0 if none did.
+    Heard(Vec<u64>, (u64, u64), (u64, u64)),
+    /// So many append files went.
+    Went(u64),
     Fused,
     /// The append queue was cleaned.
     Tidied,
@@ -214,6 +220,9 @@ fn step<F: CrashFiles + Drop>(
         return Ok(told);
     }
     if let Some(told) = clean(engine, &parts)? {
+        return Ok(told);
+    }
+    if let Some(told) = cleaned_with(engine, alloc, &parts)? {
         return Ok(told);
     }
     Ok(write(engine, alloc, word))

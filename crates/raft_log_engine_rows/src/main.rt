@@ -6,6 +6,7 @@ mod calls;
 mod cleaning;
 mod damage;
 mod found;
+mod listeners;
 mod logs;
 mod messages;
 mod patient;
@@ -14,6 +15,7 @@ mod reopening;
 mod rows;
 mod scans;
 mod stops;
+mod tools;
 
 use raft_rows::run;
 use rows::Calls;

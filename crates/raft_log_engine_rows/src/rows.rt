@@ -9,6 +9,7 @@ use crate::patient::keeps_told;
 use crate::purging::{expired, kept_at_stops};
 use crate::reopening::{config_of, reopened, run_of};
 use crate::stops::{Plan, closes_of, first_stops, stops_of};
+use crate::tools::{checked, dumped, forked};
 use raft_log_engine::{Engine, EngineFault};
 use raft_log_files::{Error, FileSystem, IoFault, MemoryFileSystem};
 use raft_log_records::{LogQueue, Version};
@@ -147,6 +148,26 @@ fn found_row(alloc: Global, words: &[&str]) -> Option<Answer> {
         ["groups", how, target_size, len] => {
             let (target_size, len) = (number(target_size), number(len));
             Answer::shown(alloc, &many_groups(alloc, target_size, how, len))
+        }
+        _ => tool_row(alloc, words)?,
+    })
+}
+
+/// The answer to a row of tools.
+fn tool_row(alloc: Global, words: &[&str]) -> Option<Answer> {
+    Some(match words {
+        ["checked", path, target_size, steps @ ..] => {
+            Answer::shown(alloc, &checked(alloc, path, number(target_size), steps))
+        }
+        ["dumped", path, target_size, steps @ ..] => {
+            Answer::shown(alloc, &dumped(alloc, path, number(target_size), steps))
+        }
+        ["forked", setting, directory, target_size, steps @ ..] => {
+            let target_size = number(target_size);
+            Answer::shown(
+                alloc,
+                &forked(alloc, setting, directory, target_size, steps),
+            )
         }
         _ => return None,
     })

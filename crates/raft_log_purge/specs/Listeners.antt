@@ -1,9 +1,31 @@
 -- Files that listeners keep.
-use Rattle.std.specs.Prelude.{ℕ, List, [], ◌∷◌, Option}
+use Rattle.std.specs.Prelude.{◌+◌, ◌-◌, ◌^◌, ◌↔◌, ℕ, List, [], ◌∷◌, min, Option, None, Some}
 use Rattle.raft_log_records.specs.declared.file_id.LogQueue.{LogQueue}
+use Rattle.raft_log_records.specs.declared.file_id.LogQueue.TheVariants.{Append, Rewrite}
 use Rattle.raft_log_covers.specs.Account.{IsFrom}
+use Rattle.raft_log_covers.specs.Trace.{least}
+use Rattle.raft_log_purge.specs.declared.listener.PurgeHook.{PurgeHook}
 
 -- none of these keeps a file before one
 abbrev pub AllKeepFrom : {L : Type 0} → (L → LogQueue → Option ℕ) → LogQueue → ℕ → List L → Type 0
 AllKeepFrom kept queue first [] = Unit {0}
 AllKeepFrom kept queue first (l ∷ ls) = IsFrom first (kept l queue) × AllKeepFrom kept queue first ls
+
+-- this is the least file that they keep, if they keep one
+abbrev pub IsLeastKept : {L : Type 0} → (L → LogQueue → Option ℕ) → LogQueue → List L → Option ℕ → Type 0
+IsLeastKept kept queue ls file = (n : ℕ) → IsFrom n file ↔ AllKeepFrom kept queue n ls
+
+-- ---- the hook
+
+-- from the least file with a batch that waits it keeps those of the append queue
+abbrev pub kept_by_hook : PurgeHook → LogQueue → Option ℕ
+kept_by_hook h Append = h.least
+kept_by_hook h Rewrite = None
+
+-- no batch waits
+abbrev pub none_waits : PurgeHook
+none_waits = record { least = None; waiting = 0 }
+
+-- one more waits, in this file
+abbrev pub waiting_at : ℕ → PurgeHook → PurgeHook
+waiting_at file h = record { least = least h.least (Some file); waiting = min (h.waiting + 1) (2 ^ 64 - 1) }

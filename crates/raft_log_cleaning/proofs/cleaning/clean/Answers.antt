@@ -20,3 +20,7 @@ pub returns-in-Ok-purge_expired-clause-both_queues : goal.returns-in-Ok-purge_ex
 returns-in-Ok-purge_expired-clause-both_queues g c = λ due is rewrites.
     let same : c.in-Expired.due ≡ due = cc in
     c.in-Ok-purge_expired.ensures.anew (ap (λ (d : Due). d.rewrites) same ∙ rewrites)
+
+pub returns-in-Ok-purge_stale-clause-rising : goal.returns-in-Ok-purge_stale-clause-rising
+unfolding IsStrictlySortedBy
+returns-in-Ok-purge_stale-clause-rising g c = subst (IsStrictlySortedBy nat_cmp) (sym c.new-in-Ok-purge_stale.ensures.items) tt

@@ -41,5 +41,6 @@ returns g c =
       rising = two.rising;
       there = all_there result log mid is_among same (two.there (λ group is. sym (same group) ∙ one.told.there group is));
       anew = cleaned_anew result d e f p q r log mid c.purge_appends.new.log c.args.manager.now c.purge_appends.new.manager.reports (is_named c.in_ok-many.many) one.cleans.ok one.anew one.append one.begins_again one.told two.cleans two.told;
+      threshold = two.threshold;
       later = no_more_then one.later two.later;
     }

@@ -1,6 +1,5 @@
 -- What the workers' machine has kept is replayed behind what the other one has replayed.
-use Rattle.std.proofs.Common.{List, []}
-use Rattle.raft_log_recovery.specs.Replay.{Placed}
+use Rattle.std.proofs.Common.{[]}
 use Rattle.raft_log_traced.specs.Traced.{IsReplayedTraced}
 use Rattle.raft_log_workers.specs.Batches.{HasBatches}
 use Rattle.raft_log_engine.proofs.Handed.{refused_so, unreplayed_so}

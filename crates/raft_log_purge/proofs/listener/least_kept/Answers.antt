@@ -1,6 +1,6 @@
 use Rattle.std.proofs.Common.{◌++◌, ◌∷◌, [], ◌+◌, take, sym, ap, subst, ◌∙◌}
 use Rattle.std.proofs.lemmas.List.{take_all, take_more}
-use Rattle.raft_log_purge.specs.Listeners.{AllKeepFrom}
+use Rattle.raft_log_purge.specs.Listeners.{IsLeastKept}
 use Rattle.raft_log_purge.proofs.ListenerLemmas.{one_asked}
 use Rattle.raft_log_purge.proofs.listener.least_kept.Goals as goal
 
@@ -14,4 +14,4 @@ loop-listener-preserved g c =
     c.first_file_not_ready_for_purge.ensures c.lesser-least.ensures c.loop-listener.invariant
 
 pub returns : goal.returns
-returns g c = λ n late. subst (λ x. AllKeepFrom g.L.EventListener.kept c.args.queue n x) (take_all c.loop-listener.listener-index c.args.listeners.now c.loop-listener-test.false) (c.loop-listener.invariant n late)
+returns g c = subst (λ x. IsLeastKept g.L.EventListener.kept c.args.queue x c.loop-listener.least) (take_all c.loop-listener.listener-index c.args.listeners.now c.loop-listener-test.false) c.loop-listener.invariant

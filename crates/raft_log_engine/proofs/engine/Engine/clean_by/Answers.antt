@@ -7,7 +7,9 @@ use Rattle.raft_log_pipe.specs.Pipe.{first_of}
 use Rattle.raft_log_blocks.specs.Held.{seen_on}
 use Rattle.raft_log_engine.specs.Reopened.{OpensAs, directories_of_pipes}
 use Rattle.raft_log_engine.proofs.Clauses.{kept_by, parts}
-use Rattle.raft_log_engine.proofs.Cleaned.{both_stand, can_clean, cleaned_holds, cleaned_kept, cleaned_left, cleaned_seen, cleaned_written, only_new_since, same_first, set_then, standing_in_tail, standing_opens}
+use Rattle.raft_log_traces.specs.GroupTraces.{traces_in}
+use Rattle.raft_log_engine.proofs.Barred.{barred}
+use Rattle.raft_log_engine.proofs.Cleaned.{both_stand, can_clean, cleaned_holds, cleaned_kept, cleaned_left, cleaned_seen, cleaned_written, gone_since, large_still, only_new_since, same_first, set_then, standing_in_tail, standing_opens}
 use Rattle.raft_log_engine.proofs.Reopened.{kept_opens, synced_stands}
 use Rattle.raft_log_engine.proofs.Tails.{held_in_tail}
 use Rattle.raft_log_engine.proofs.engine.Engine.clean_by.Goals as goal
@@ -85,7 +87,7 @@ returns-in-Ok-clause-left g c =
     let now = c.clean.new.log in
     let content = seen_on d p traced.tables in
     let cleaned = c.in-Ok.ensures.cleans.ok content can in
-    rw (← c.self.view_is) (cleaned_left (g.F.FileSystem.disk) (parts c.self.inside.files c.self.inside.pipes c.self.inside.traced.tables c.self.inside.is_stopped c.self.inside.wrote_unsynced c.self.inside.blocks.reads) (c.self.invariant c.if-self.false).batches c.clean.new.files t now cleaned c.self.inside.is_stopped c.if-self.false)
+    rw (← c.self.view_is) (cleaned_left (g.F.FileSystem.disk) (parts c.self.inside.files c.self.inside.pipes c.self.inside.traced.tables c.self.inside.is_stopped c.self.inside.wrote_unsynced c.self.inside.blocks.reads c.self.inside.traced c.self.inside.manager.purge_threshold) (c.self.invariant c.if-self.false).batches c.clean.new.files t now cleaned c.self.inside.is_stopped c.if-self.false)
 
 pub returns-in-Ok-clause-all_written : goal.returns-in-Ok-clause-all_written
 returns-in-Ok-clause-all_written g c =
@@ -100,7 +102,7 @@ returns-in-Ok-clause-all_written g c =
     let now = c.clean.new.log in
     let content = seen_on d p traced.tables in
     let cleaned = c.in-Ok.ensures.cleans.ok content can in
-    cleaned_written (g.F.FileSystem.disk) (parts c.self.inside.files c.self.inside.pipes c.self.inside.traced.tables c.self.inside.is_stopped c.self.inside.wrote_unsynced c.self.inside.blocks.reads) (c.self.invariant c.if-self.false).batches c.clean.new.files t now cleaned c.self.inside.is_stopped _
+    cleaned_written (g.F.FileSystem.disk) (parts c.self.inside.files c.self.inside.pipes c.self.inside.traced.tables c.self.inside.is_stopped c.self.inside.wrote_unsynced c.self.inside.blocks.reads c.self.inside.traced c.self.inside.manager.purge_threshold) (c.self.invariant c.if-self.false).batches c.clean.new.files t now cleaned c.self.inside.is_stopped _ _
 
 pub returns-in-Ok-clause-paths : goal.returns-in-Ok-clause-paths
 returns-in-Ok-clause-paths g c = rw (← c.self.view_is) (c.in-Ok.ensures.both.0.paths ∙ c.in_default.ensures.still.paths)
@@ -199,6 +201,35 @@ pub returns-in-Ok-clause-barrier : goal.returns-in-Ok-clause-barrier
 returns-in-Ok-clause-barrier g c =
     let still = c.in_default.ensures.still in
     rw (← c.self.view_is) (subst (λ (n : ℕ). IfSome c.args.barrier (λ file. (first_of c.clean.new.pipes.append ≡ n) ⊎ (first_of c.clean.new.pipes.append ≤ file))) (same_first c.self.inside.pipes.append c.sync_unsynced.new.pipes.append still.same) c.in-Ok.ensures.barrier)
+
+pub returns-in-Ok-clause-gone : goal.returns-in-Ok-clause-gone
+returns-in-Ok-clause-gone g c =
+    let still = c.in_default.ensures.still in
+    rw (← c.self.view_is) (λ all. gone_since (traces_in c.clean.new.log.traces) c.args.barrier c.self.inside.pipes.append c.sync_unsynced.new.pipes.append c.clean.new.pipes.append still.same (c.in-Ok.ensures.gone all))
+
+pub returns-in-Ok-clause-stale : goal.returns-in-Ok-clause-stale
+returns-in-Ok-clause-stale g c =
+    let still = c.in_default.ensures.still in
+    rw (← c.self.view_is) (λ is. gone_since (traces_in c.clean.new.log.traces) c.args.barrier c.self.inside.pipes.append c.sync_unsynced.new.pipes.append c.clean.new.pipes.append still.same (c.in-Ok.ensures.stale is).gone)
+
+pub returns-in-Ok-clause-expired : goal.returns-in-Ok-clause-expired
+returns-in-Ok-clause-expired g c =
+    let still = c.in_default.ensures.still in
+    let p = c.self.inside.pipes.append in
+    let q = c.sync_unsynced.new.pipes.append in
+    rw (← c.self.view_is) (λ due is large.
+    gone_since (traces_in c.clean.new.log.traces) c.args.barrier p q c.clean.new.pipes.append still.same (c.in-Ok.ensures.expired due is (large_still p q c.self.inside.manager.purge_threshold still.same c.in_default.ensures.set.0.0 large)))
+
+pub returns-in-Ok-clause-stale_count : goal.returns-in-Ok-clause-stale_count
+returns-in-Ok-clause-stale_count g c =
+    let still = c.in_default.ensures.still in
+    rw (← c.self.view_is) (λ is. subst (λ (n : ℕ). n + c.in-Ok.done.went ≡ first_of c.clean.new.pipes.append) (same_first c.self.inside.pipes.append c.sync_unsynced.new.pipes.append still.same) (c.in-Ok.ensures.stale_count is))
+
+pub returns-then-not-may_clean-clause-barred : goal.returns-then-not-may_clean-clause-barred
+returns-then-not-may_clean-clause-barred g c =
+    rw (← c.self.view_is) (λ is.
+    barred (parts c.self.inside.files c.self.inside.pipes c.self.inside.traced.tables c.self.inside.is_stopped c.self.inside.wrote_unsynced c.self.inside.blocks.reads c.self.inside.traced c.self.inside.manager.purge_threshold) c.self.inside.traced refl refl c.args.extent
+    (λ may. false≢true (sym c.if-not-may_clean.true ∙ c.may_clean.ensures.1 may)))
 
 pub returns-in-Ok-clause-count : goal.returns-in-Ok-clause-count
 returns-in-Ok-clause-count g c =
@@ -317,7 +348,7 @@ returns-then-not-may_clean-clause-opens_still g c =
     let d = g.F.FileSystem.disk c.self.inside.files in
     let p = c.self.inside.pipes in
     rw (← c.self.view_is) (λ sound alone.
-    let kept = kept_by (g.F.FileSystem.disk) (parts c.self.inside.files c.self.inside.pipes c.self.inside.traced.tables c.self.inside.is_stopped c.self.inside.wrote_unsynced c.self.inside.blocks.reads) (c.self.invariant c.if-self.false).batches sound.synced in
+    let kept = kept_by (g.F.FileSystem.disk) (parts c.self.inside.files c.self.inside.pipes c.self.inside.traced.tables c.self.inside.is_stopped c.self.inside.wrote_unsynced c.self.inside.blocks.reads c.self.inside.traced c.self.inside.manager.purge_threshold) (c.self.invariant c.if-self.false).batches sound.synced in
     kept_opens d p c.self.inside.traced.tables kept.0 kept.1 (met.is_named c.self.inside.files) alone kept.2)
 
 pub returns-then-not-may_clean-clause-opens_in_tail : goal.returns-then-not-may_clean-clause-opens_in_tail

@@ -15,14 +15,14 @@ use Rattle.raft_log_engine.proofs.engine.Engine.close.Goals as goal
 pub returns-then-self-clause-opens_front : goal.returns-then-self-clause-opens_front
 returns-then-self-clause-opens_front g c =
     let met = g.met.F.FileSystem g.world.𝓛 g.world.𝓜 g.world.𝓡 ((λ s x. x), (λ x. x), (λ x. x), λ x. x) in
-    rw (← c.self.view_is) (λ before batches alone w. written_opens (g.F.FileSystem.disk) (parts c.self.inside.files c.self.inside.pipes c.self.inside.traced.tables c.self.inside.is_stopped c.self.inside.wrote_unsynced c.self.inside.blocks.reads) before batches (met.is_named c.self.inside.files) alone w)
+    rw (← c.self.view_is) (λ before batches alone w. written_opens (g.F.FileSystem.disk) (parts c.self.inside.files c.self.inside.pipes c.self.inside.traced.tables c.self.inside.is_stopped c.self.inside.wrote_unsynced c.self.inside.blocks.reads c.self.inside.traced c.self.inside.manager.purge_threshold) before batches (met.is_named c.self.inside.files) alone w)
 
 -- closing the append queue was refused
 
 pub returns-in-Err-clause-opens : goal.returns-in-Err-clause-opens
 returns-in-Err-clause-opens g c =
     let met = g.met.F.FileSystem g.world.𝓛 g.world.𝓜 g.world.𝓡 ((λ s x. x), (λ x. x), (λ x. x), λ x. x) in
-    let old = (parts c.self.inside.files c.self.inside.pipes c.self.inside.traced.tables c.self.inside.is_stopped c.self.inside.wrote_unsynced c.self.inside.blocks.reads) in
+    let old = (parts c.self.inside.files c.self.inside.pipes c.self.inside.traced.tables c.self.inside.is_stopped c.self.inside.wrote_unsynced c.self.inside.blocks.reads c.self.inside.traced c.self.inside.manager.purge_threshold) in
     let p = c.self.inside.pipes in
     let q = c.close.new.self in
     let d = g.F.FileSystem.disk c.self.inside.files in
@@ -47,7 +47,7 @@ returns-in-Err-clause-opens_front g c =
 pub returns-in-Err-close-clause-opens : goal.returns-in-Err-close-clause-opens
 returns-in-Err-close-clause-opens g c =
     let met = g.met.F.FileSystem g.world.𝓛 g.world.𝓜 g.world.𝓡 ((λ s x. x), (λ x. x), (λ x. x), λ x. x) in
-    let old = (parts c.self.inside.files c.self.inside.pipes c.self.inside.traced.tables c.self.inside.is_stopped c.self.inside.wrote_unsynced c.self.inside.blocks.reads) in
+    let old = (parts c.self.inside.files c.self.inside.pipes c.self.inside.traced.tables c.self.inside.is_stopped c.self.inside.wrote_unsynced c.self.inside.blocks.reads c.self.inside.traced c.self.inside.manager.purge_threshold) in
     let p = c.self.inside.pipes in
     let q = c.close.new.self in
     let d = g.F.FileSystem.disk c.self.inside.files in
@@ -79,7 +79,7 @@ returns-in-Err-close-clause-later g c = rw (← c.self.view_is) (no_more_then c.
 pub returns-clause-opens : goal.returns-clause-opens
 returns-clause-opens g c =
     let met = g.met.F.FileSystem g.world.𝓛 g.world.𝓜 g.world.𝓡 ((λ s x. x), (λ x. x), (λ x. x), λ x. x) in
-    let old = (parts c.self.inside.files c.self.inside.pipes c.self.inside.traced.tables c.self.inside.is_stopped c.self.inside.wrote_unsynced c.self.inside.blocks.reads) in
+    let old = (parts c.self.inside.files c.self.inside.pipes c.self.inside.traced.tables c.self.inside.is_stopped c.self.inside.wrote_unsynced c.self.inside.blocks.reads c.self.inside.traced c.self.inside.manager.purge_threshold) in
     let p = c.self.inside.pipes in
     let q = c.close.new.self in
     let d = g.F.FileSystem.disk c.self.inside.files in
@@ -121,7 +121,7 @@ returns-in-Err-close-clause-cause g c =
 pub returns-clause-opens_all : goal.returns-clause-opens_all
 returns-clause-opens_all g c =
     let met = g.met.F.FileSystem g.world.𝓛 g.world.𝓜 g.world.𝓡 ((λ s x. x), (λ x. x), (λ x. x), λ x. x) in
-    let old = (parts c.self.inside.files c.self.inside.pipes c.self.inside.traced.tables c.self.inside.is_stopped c.self.inside.wrote_unsynced c.self.inside.blocks.reads) in
+    let old = (parts c.self.inside.files c.self.inside.pipes c.self.inside.traced.tables c.self.inside.is_stopped c.self.inside.wrote_unsynced c.self.inside.blocks.reads c.self.inside.traced c.self.inside.manager.purge_threshold) in
     let held = (c.self.invariant c.if-self.false).batches in
     let p = c.self.inside.pipes in
     let q = c.close.new.self in

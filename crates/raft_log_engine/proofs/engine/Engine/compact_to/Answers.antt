@@ -23,7 +23,7 @@ use Rattle.raft_log_engine.proofs.engine.Engine.compact_to.Goals as goal
 
 pub returns-in_err-batch-clause-err : goal.returns-in_err-batch-clause-err
 returns-in_err-batch-clause-err g c =
-    rw (← c.self.view_is) (λ sound. at_err _ _ (refused (g.F.FileSystem.disk) (parts c.self.inside.files c.self.inside.pipes c.self.inside.traced.tables c.self.inside.is_stopped c.self.inside.wrote_unsynced c.self.inside.blocks.reads) (kept_by (g.F.FileSystem.disk) (parts c.self.inside.files c.self.inside.pipes c.self.inside.traced.tables c.self.inside.is_stopped c.self.inside.wrote_unsynced c.self.inside.blocks.reads) (c.self.invariant c.if-self.false).batches sound.synced) sound.synced (compaction c.args.group c.args.index ∷ [])))
+    rw (← c.self.view_is) (λ sound. at_err _ _ (refused (g.F.FileSystem.disk) (parts c.self.inside.files c.self.inside.pipes c.self.inside.traced.tables c.self.inside.is_stopped c.self.inside.wrote_unsynced c.self.inside.blocks.reads c.self.inside.traced c.self.inside.manager.purge_threshold) (kept_by (g.F.FileSystem.disk) (parts c.self.inside.files c.self.inside.pipes c.self.inside.traced.tables c.self.inside.is_stopped c.self.inside.wrote_unsynced c.self.inside.blocks.reads c.self.inside.traced c.self.inside.manager.purge_threshold) (c.self.invariant c.if-self.false).batches sound.synced) sound.synced (compaction c.args.group c.args.index ∷ [])))
 
 pub returns-clause-count : goal.returns-clause-count
 returns-clause-count g c =
@@ -56,7 +56,7 @@ returns-in_err-write-clause-taken g c =
 pub returns-in_err-batch-clause-opens_either : goal.returns-in_err-batch-clause-opens_either
 returns-in_err-batch-clause-opens_either g c =
     let met = g.met.F.FileSystem g.world.𝓛 g.world.𝓜 g.world.𝓡 ((λ s x. x), (λ x. x), (λ x. x), λ x. x) in
-    rw (← c.self.view_is) (λ sound alone. at_err _ _ (refused_opens (g.F.FileSystem.disk) (parts c.self.inside.files c.self.inside.pipes c.self.inside.traced.tables c.self.inside.is_stopped c.self.inside.wrote_unsynced c.self.inside.blocks.reads) alone (kept_by (g.F.FileSystem.disk) (parts c.self.inside.files c.self.inside.pipes c.self.inside.traced.tables c.self.inside.is_stopped c.self.inside.wrote_unsynced c.self.inside.blocks.reads) (c.self.invariant c.if-self.false).batches sound.synced) (met.is_named c.self.inside.files) (compaction c.args.group c.args.index ∷ [])))
+    rw (← c.self.view_is) (λ sound alone. at_err _ _ (refused_opens (g.F.FileSystem.disk) (parts c.self.inside.files c.self.inside.pipes c.self.inside.traced.tables c.self.inside.is_stopped c.self.inside.wrote_unsynced c.self.inside.blocks.reads c.self.inside.traced c.self.inside.manager.purge_threshold) alone (kept_by (g.F.FileSystem.disk) (parts c.self.inside.files c.self.inside.pipes c.self.inside.traced.tables c.self.inside.is_stopped c.self.inside.wrote_unsynced c.self.inside.blocks.reads c.self.inside.traced c.self.inside.manager.purge_threshold) (c.self.invariant c.if-self.false).batches sound.synced) (met.is_named c.self.inside.files) (compaction c.args.group c.args.index ∷ [])))
 
 pub returns-in_err-write-clause-opens_either : goal.returns-in_err-write-clause-opens_either
 returns-in_err-write-clause-opens_either g c =
@@ -70,12 +70,12 @@ returns-clause-written g c =
 pub returns-then-self-clause-opens_front : goal.returns-then-self-clause-opens_front
 returns-then-self-clause-opens_front g c =
     let met = g.met.F.FileSystem g.world.𝓛 g.world.𝓜 g.world.𝓡 ((λ s x. x), (λ x. x), (λ x. x), λ x. x) in
-    rw (← c.self.view_is) (λ before batches alone w. refused_front (g.F.FileSystem.disk) (parts c.self.inside.files c.self.inside.pipes c.self.inside.traced.tables c.self.inside.is_stopped c.self.inside.wrote_unsynced c.self.inside.blocks.reads) before batches _ (met.is_named c.self.inside.files) alone w)
+    rw (← c.self.view_is) (λ before batches alone w. refused_front (g.F.FileSystem.disk) (parts c.self.inside.files c.self.inside.pipes c.self.inside.traced.tables c.self.inside.is_stopped c.self.inside.wrote_unsynced c.self.inside.blocks.reads c.self.inside.traced c.self.inside.manager.purge_threshold) before batches _ (met.is_named c.self.inside.files) alone w)
 
 pub returns-in_err-batch-clause-opens_front : goal.returns-in_err-batch-clause-opens_front
 returns-in_err-batch-clause-opens_front g c =
     let met = g.met.F.FileSystem g.world.𝓛 g.world.𝓜 g.world.𝓡 ((λ s x. x), (λ x. x), (λ x. x), λ x. x) in
-    rw (← c.self.view_is) (λ before batches alone w. refused_front (g.F.FileSystem.disk) (parts c.self.inside.files c.self.inside.pipes c.self.inside.traced.tables c.self.inside.is_stopped c.self.inside.wrote_unsynced c.self.inside.blocks.reads) before batches _ (met.is_named c.self.inside.files) alone w)
+    rw (← c.self.view_is) (λ before batches alone w. refused_front (g.F.FileSystem.disk) (parts c.self.inside.files c.self.inside.pipes c.self.inside.traced.tables c.self.inside.is_stopped c.self.inside.wrote_unsynced c.self.inside.blocks.reads c.self.inside.traced c.self.inside.manager.purge_threshold) before batches _ (met.is_named c.self.inside.files) alone w)
 
 pub returns-in_err-write-clause-opens_front : goal.returns-in_err-write-clause-opens_front
 returns-in_err-write-clause-opens_front g c =
@@ -117,7 +117,7 @@ returns-then-self-clause-goes_on_in_tail g c = rw (← c.self.view_is) (λ alone
 pub returns-in_err-batch-clause-goes_on_in_tail : goal.returns-in_err-batch-clause-goes_on_in_tail
 returns-in_err-batch-clause-goes_on_in_tail g c =
     let met = g.met.F.FileSystem g.world.𝓛 g.world.𝓜 g.world.𝓡 ((λ s x. x), (λ x. x), (λ x. x), λ x. x) in
-    rw (← c.self.view_is) (λ alone going. stands_in_tail (g.F.FileSystem.disk) (parts c.self.inside.files c.self.inside.pipes c.self.inside.traced.tables c.self.inside.is_stopped c.self.inside.wrote_unsynced c.self.inside.blocks.reads) (met.is_named c.self.inside.files) alone (c.self.invariant c.if-self.false).batches)
+    rw (← c.self.view_is) (λ alone going. stands_in_tail (g.F.FileSystem.disk) (parts c.self.inside.files c.self.inside.pipes c.self.inside.traced.tables c.self.inside.is_stopped c.self.inside.wrote_unsynced c.self.inside.blocks.reads c.self.inside.traced c.self.inside.manager.purge_threshold) (met.is_named c.self.inside.files) alone (c.self.invariant c.if-self.false).batches)
 
 pub returns-in_err-write-clause-goes_on_in_tail : goal.returns-in_err-write-clause-goes_on_in_tail
 returns-in_err-write-clause-goes_on_in_tail g c = c.in_err-write.ensures.goes_on_in_tail

@@ -47,12 +47,12 @@ returns-clause-reads g c =
 
 pub returns-in-Err-clause-err : goal.returns-in-Err-clause-err
 returns-in-Err-clause-err g c =
-    rw (← c.self.view_is) (range_fault (g.F.FileSystem.disk) (g.F.FileSystem.meter) (parts c.self.inside.files c.self.inside.pipes c.self.inside.traced.tables c.self.inside.is_stopped c.self.inside.wrote_unsynced c.self.inside.blocks.reads) (content_in c.self.inside.traced.tables c.args.group) c.args.begin c.args.end
+    rw (← c.self.view_is) (range_fault (g.F.FileSystem.disk) (g.F.FileSystem.meter) (parts c.self.inside.files c.self.inside.pipes c.self.inside.traced.tables c.self.inside.is_stopped c.self.inside.wrote_unsynced c.self.inside.blocks.reads c.self.inside.traced c.self.inside.manager.purge_threshold) (content_in c.self.inside.traced.tables c.args.group) c.args.begin c.args.end
     c.args.max_size c.in-Err.error c.fault_of.result c.fault_of.ensures c.in-Err.ensures.some c.in-Err.ensures.none c.in-Err.ensures.unknown)
 
 pub returns-clause-err : goal.returns-clause-err
 returns-clause-err g c =
-    rw (← c.self.view_is) (copies_fault (g.F.FileSystem.disk) (g.F.FileSystem.meter) (parts c.self.inside.files c.self.inside.pipes c.self.inside.traced.tables c.self.inside.is_stopped c.self.inside.wrote_unsynced c.self.inside.blocks.reads) (content_in c.self.inside.traced.tables c.args.group) c.args.begin c.args.end
+    rw (← c.self.view_is) (copies_fault (g.F.FileSystem.disk) (g.F.FileSystem.meter) (parts c.self.inside.files c.self.inside.pipes c.self.inside.traced.tables c.self.inside.is_stopped c.self.inside.wrote_unsynced c.self.inside.blocks.reads c.self.inside.traced c.self.inside.manager.purge_threshold) (content_in c.self.inside.traced.tables c.args.group) c.args.begin c.args.end
     c.copies_of.result c.deref.result.now
     (λ e among. fetched_there (content_in c.self.inside.traced.tables c.args.group) c.args.begin c.args.end c.args.max_size c.in-Ok.places.items c.in-Ok.ensures.some c.in-Ok.ensures.none c.in-Ok.ensures.unknown e
     (subst (λ l. Contains l e) c.deref.ensures.value among))

@@ -43,5 +43,5 @@ returns-in_ok-copy_of-in-Some-clause-found g c =
 pub returns-in_err-copy_of-in-Some-clause-err : goal.returns-in_err-copy_of-in-Some-clause-err
 returns-in_err-copy_of-in-Some-clause-err g c =
     rw (← c.self.view_is) (told_cause c.from_residual.result c.in_err-copy_of-in-Some.field-0.0
-    (λ (x : EngineFault). IsGetFault (g.F.FileSystem.disk) (g.F.FileSystem.meter) (parts c.self.inside.files c.self.inside.pipes c.self.inside.traced.tables c.self.inside.is_stopped c.self.inside.wrote_unsynced c.self.inside.blocks.reads) (content_in c.self.inside.traced.tables c.args.group) c.args.index x) c.from_residual.ensures.1
+    (λ (x : EngineFault). IsGetFault (g.F.FileSystem.disk) (g.F.FileSystem.meter) (parts c.self.inside.files c.self.inside.pipes c.self.inside.traced.tables c.self.inside.is_stopped c.self.inside.wrote_unsynced c.self.inside.blocks.reads c.self.inside.traced c.self.inside.manager.purge_threshold) (content_in c.self.inside.traced.tables c.args.group) c.args.index x) c.from_residual.ensures.1
     (inr (c.in-Some.place, sym c.in-Some.ensures, c.in_err-copy_of-in-Some.ensures.err)))

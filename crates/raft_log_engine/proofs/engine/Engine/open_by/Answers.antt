@@ -60,7 +60,7 @@ invariant_of-result g c =
 pub returns-in-Ok-clause-written : goal.returns-in-Ok-clause-written
 returns-in-Ok-clause-written g c =
     let is = c.in-Ok.ensures.ok in
-    let e = parts c.found_soundly.new.files c.in-Ok.pipes c.in-Ok.traced.tables false false c.new.result.reads in
+    let e = parts c.found_soundly.new.files c.in-Ok.pipes c.in-Ok.traced.tables false false c.new.result.reads c.in-Ok.traced c.new-manager.result.purge_threshold in
     nothing_since (g.F.FileSystem.disk) e is.rewrites is.appends is.kept.rewrite is.kept.append (answers_on (g.F.FileSystem.disk) e)
     (answered (g.F.FileSystem.disk c.found_soundly.new.files) c.in-Ok.pipes c.in-Ok.traced.tables is.rewrites is.appends is.kept)
 

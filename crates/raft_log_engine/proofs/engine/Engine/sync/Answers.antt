@@ -19,19 +19,19 @@ use Rattle.raft_log_engine.proofs.engine.Engine.sync.Goals as goal
 pub returns-then-self-clause-opens_front : goal.returns-then-self-clause-opens_front
 returns-then-self-clause-opens_front g c =
     let met = g.met.F.FileSystem g.world.𝓛 g.world.𝓜 g.world.𝓡 ((λ s x. x), (λ x. x), (λ x. x), λ x. x) in
-    rw (← c.self.view_is) (λ before batches alone w. written_opens (g.F.FileSystem.disk) (parts c.self.inside.files c.self.inside.pipes c.self.inside.traced.tables c.self.inside.is_stopped c.self.inside.wrote_unsynced c.self.inside.blocks.reads) before batches (met.is_named c.self.inside.files) alone w)
+    rw (← c.self.view_is) (λ before batches alone w. written_opens (g.F.FileSystem.disk) (parts c.self.inside.files c.self.inside.pipes c.self.inside.traced.tables c.self.inside.is_stopped c.self.inside.wrote_unsynced c.self.inside.blocks.reads c.self.inside.traced c.self.inside.manager.purge_threshold) before batches (met.is_named c.self.inside.files) alone w)
 
 pub returns-in-Err-clause-written : goal.returns-in-Err-clause-written
 returns-in-Err-clause-written g c =
-    let old = (parts c.self.inside.files c.self.inside.pipes c.self.inside.traced.tables c.self.inside.is_stopped c.self.inside.wrote_unsynced c.self.inside.blocks.reads) in
-    let new = parts c.sync.new.files c.sync.new.self c.self.inside.traced.tables true c.self.inside.wrote_unsynced c.self.inside.blocks.reads in
+    let old = (parts c.self.inside.files c.self.inside.pipes c.self.inside.traced.tables c.self.inside.is_stopped c.self.inside.wrote_unsynced c.self.inside.blocks.reads c.self.inside.traced c.self.inside.manager.purge_threshold) in
+    let new = parts c.sync.new.files c.sync.new.self c.self.inside.traced.tables true c.self.inside.wrote_unsynced c.self.inside.blocks.reads c.self.inside.traced c.self.inside.manager.purge_threshold in
     rw (← c.self.view_is) (λ before batches w. unsynced_written (g.F.FileSystem.disk) old new before batches c.in-Err.ensures.other c.in-Err.ensures.call.err w)
 
 pub returns-in-Err-clause-opens_front : goal.returns-in-Err-clause-opens_front
 returns-in-Err-clause-opens_front g c =
     let met = g.met.F.FileSystem g.world.𝓛 g.world.𝓜 g.world.𝓡 ((λ s x. x), (λ x. x), (λ x. x), λ x. x) in
-    let old = (parts c.self.inside.files c.self.inside.pipes c.self.inside.traced.tables c.self.inside.is_stopped c.self.inside.wrote_unsynced c.self.inside.blocks.reads) in
-    let new = parts c.sync.new.files c.sync.new.self c.self.inside.traced.tables true c.self.inside.wrote_unsynced c.self.inside.blocks.reads in
+    let old = (parts c.self.inside.files c.self.inside.pipes c.self.inside.traced.tables c.self.inside.is_stopped c.self.inside.wrote_unsynced c.self.inside.blocks.reads c.self.inside.traced c.self.inside.manager.purge_threshold) in
+    let new = parts c.sync.new.files c.sync.new.self c.self.inside.traced.tables true c.self.inside.wrote_unsynced c.self.inside.blocks.reads c.self.inside.traced c.self.inside.manager.purge_threshold in
     rw (← c.self.view_is) (λ before batches alone w. written_opens (g.F.FileSystem.disk) new before batches (met.is_named c.sync.new.files)
     (synced_stands c.self.inside.pipes c.sync.new.self (g.F.FileSystem.disk c.self.inside.files) (g.F.FileSystem.disk c.sync.new.files) c.in-Err.ensures.call.same c.in-Err.ensures.call.paths c.in-Err.ensures.call.names c.in-Err.ensures.other alone)
     (unsynced_written (g.F.FileSystem.disk) old new before batches c.in-Err.ensures.other c.in-Err.ensures.call.err w))
@@ -87,15 +87,15 @@ returns-clause-opens g c =
 
 pub returns-clause-written : goal.returns-clause-written
 returns-clause-written g c =
-    let old = (parts c.self.inside.files c.self.inside.pipes c.self.inside.traced.tables c.self.inside.is_stopped c.self.inside.wrote_unsynced c.self.inside.blocks.reads) in
-    let new = parts c.sync.new.files c.sync.new.self c.self.inside.traced.tables c.self.inside.is_stopped c.self.inside.wrote_unsynced c.self.inside.blocks.reads in
+    let old = (parts c.self.inside.files c.self.inside.pipes c.self.inside.traced.tables c.self.inside.is_stopped c.self.inside.wrote_unsynced c.self.inside.blocks.reads c.self.inside.traced c.self.inside.manager.purge_threshold) in
+    let new = parts c.sync.new.files c.sync.new.self c.self.inside.traced.tables c.self.inside.is_stopped c.self.inside.wrote_unsynced c.self.inside.blocks.reads c.self.inside.traced c.self.inside.manager.purge_threshold in
     rw (← c.self.view_is) (λ before batches w. synced_written (g.F.FileSystem.disk) old new before batches c.in_default.ensures.other c.in_default.ensures.call.ok w)
 
 pub returns-clause-opens_front : goal.returns-clause-opens_front
 returns-clause-opens_front g c =
     let met = g.met.F.FileSystem g.world.𝓛 g.world.𝓜 g.world.𝓡 ((λ s x. x), (λ x. x), (λ x. x), λ x. x) in
-    let old = (parts c.self.inside.files c.self.inside.pipes c.self.inside.traced.tables c.self.inside.is_stopped c.self.inside.wrote_unsynced c.self.inside.blocks.reads) in
-    let new = parts c.sync.new.files c.sync.new.self c.self.inside.traced.tables c.self.inside.is_stopped c.self.inside.wrote_unsynced c.self.inside.blocks.reads in
+    let old = (parts c.self.inside.files c.self.inside.pipes c.self.inside.traced.tables c.self.inside.is_stopped c.self.inside.wrote_unsynced c.self.inside.blocks.reads c.self.inside.traced c.self.inside.manager.purge_threshold) in
+    let new = parts c.sync.new.files c.sync.new.self c.self.inside.traced.tables c.self.inside.is_stopped c.self.inside.wrote_unsynced c.self.inside.blocks.reads c.self.inside.traced c.self.inside.manager.purge_threshold in
     rw (← c.self.view_is) (λ before batches alone w. written_opens (g.F.FileSystem.disk) new before batches (met.is_named c.sync.new.files)
     (synced_stands c.self.inside.pipes c.sync.new.self (g.F.FileSystem.disk c.self.inside.files) (g.F.FileSystem.disk c.sync.new.files) c.in_default.ensures.call.same c.in_default.ensures.call.paths c.in_default.ensures.call.names c.in_default.ensures.other alone)
     (synced_written (g.F.FileSystem.disk) old new before batches c.in_default.ensures.other c.in_default.ensures.call.ok w))
@@ -105,13 +105,13 @@ returns-clause-all_written g c =
     let held = (c.self.invariant c.if-self.false).batches in
     let d = g.F.FileSystem.disk c.self.inside.files in
     let e = g.F.FileSystem.disk c.sync.new.files in
-    let new = parts c.sync.new.files c.sync.new.self c.self.inside.traced.tables c.self.inside.is_stopped c.self.inside.wrote_unsynced c.self.inside.blocks.reads in
+    let new = parts c.sync.new.files c.sync.new.self c.self.inside.traced.tables c.self.inside.is_stopped c.self.inside.wrote_unsynced c.self.inside.blocks.reads c.self.inside.traced c.self.inside.manager.purge_threshold in
     let kept = synced_kept d e c.self.inside.pipes c.sync.new.self c.self.inside.traced.tables held.rewrites held.synced held.unsynced held.held (c.in_default.ensures.both held.held.pipes) c.in_default.ensures.call.same c.in_default.ensures.other c.in_default.ensures.call.ok in
     nothing_since (g.F.FileSystem.disk) new held.rewrites (held.synced ++ held.unsynced) kept.rewrite kept.append (answers_on (g.F.FileSystem.disk) new) (answered e c.sync.new.self c.self.inside.traced.tables held.rewrites (held.synced ++ held.unsynced) kept)
 
 pub returns-in-Err-clause-taken : goal.returns-in-Err-clause-taken
 returns-in-Err-clause-taken g c =
-    rw (← c.self.view_is) (λ free. failed_sync (parts c.self.inside.files c.self.inside.pipes c.self.inside.traced.tables c.self.inside.is_stopped c.self.inside.wrote_unsynced c.self.inside.blocks.reads) c.in-Err.error (c.in-Err.ensures.taken free))
+    rw (← c.self.view_is) (λ free. failed_sync (parts c.self.inside.files c.self.inside.pipes c.self.inside.traced.tables c.self.inside.is_stopped c.self.inside.wrote_unsynced c.self.inside.blocks.reads c.self.inside.traced c.self.inside.manager.purge_threshold) c.in-Err.error (c.in-Err.ensures.taken free))
 
 -- ---- where the files lie
 
@@ -169,7 +169,7 @@ returns-in-Err-clause-cause g c = rw (← c.self.view_is) c.in-Err.ensures.cause
 
 pub returns-in-Err-clause-left : goal.returns-in-Err-clause-left
 returns-in-Err-clause-left g c =
-    let old = (parts c.self.inside.files c.self.inside.pipes c.self.inside.traced.tables c.self.inside.is_stopped c.self.inside.wrote_unsynced c.self.inside.blocks.reads) in
+    let old = (parts c.self.inside.files c.self.inside.pipes c.self.inside.traced.tables c.self.inside.is_stopped c.self.inside.wrote_unsynced c.self.inside.blocks.reads c.self.inside.traced c.self.inside.manager.purge_threshold) in
     let still : IsStill (g.F.FileSystem.disk c.self.inside.files) c.self.inside.pipes (g.F.FileSystem.disk c.sync.new.files) c.sync.new.self = record {
       pipes = c.in-Err.ensures.both;
       same = c.in-Err.ensures.call.same;
@@ -183,7 +183,7 @@ returns-in-Err-clause-left g c =
 pub returns-in-Err-clause-opens_still : goal.returns-in-Err-clause-opens_still
 returns-in-Err-clause-opens_still g c =
     let met = g.met.F.FileSystem g.world.𝓛 g.world.𝓜 g.world.𝓡 ((λ s x. x), (λ x. x), (λ x. x), λ x. x) in
-    let old = (parts c.self.inside.files c.self.inside.pipes c.self.inside.traced.tables c.self.inside.is_stopped c.self.inside.wrote_unsynced c.self.inside.blocks.reads) in
+    let old = (parts c.self.inside.files c.self.inside.pipes c.self.inside.traced.tables c.self.inside.is_stopped c.self.inside.wrote_unsynced c.self.inside.blocks.reads c.self.inside.traced c.self.inside.manager.purge_threshold) in
     let still : IsStill (g.F.FileSystem.disk c.self.inside.files) c.self.inside.pipes (g.F.FileSystem.disk c.sync.new.files) c.sync.new.self = record {
       pipes = c.in-Err.ensures.both;
       same = c.in-Err.ensures.call.same;
@@ -196,7 +196,7 @@ returns-in-Err-clause-opens_still g c =
 
 pub returns-clause-left : goal.returns-clause-left
 returns-clause-left g c =
-    let old = (parts c.self.inside.files c.self.inside.pipes c.self.inside.traced.tables c.self.inside.is_stopped c.self.inside.wrote_unsynced c.self.inside.blocks.reads) in
+    let old = (parts c.self.inside.files c.self.inside.pipes c.self.inside.traced.tables c.self.inside.is_stopped c.self.inside.wrote_unsynced c.self.inside.blocks.reads c.self.inside.traced c.self.inside.manager.purge_threshold) in
     let still : IsStill (g.F.FileSystem.disk c.self.inside.files) c.self.inside.pipes (g.F.FileSystem.disk c.sync.new.files) c.sync.new.self = record {
       pipes = c.in_default.ensures.both;
       same = c.in_default.ensures.call.same;
@@ -210,7 +210,7 @@ returns-clause-left g c =
 pub returns-clause-opens_still : goal.returns-clause-opens_still
 returns-clause-opens_still g c =
     let met = g.met.F.FileSystem g.world.𝓛 g.world.𝓜 g.world.𝓡 ((λ s x. x), (λ x. x), (λ x. x), λ x. x) in
-    let old = (parts c.self.inside.files c.self.inside.pipes c.self.inside.traced.tables c.self.inside.is_stopped c.self.inside.wrote_unsynced c.self.inside.blocks.reads) in
+    let old = (parts c.self.inside.files c.self.inside.pipes c.self.inside.traced.tables c.self.inside.is_stopped c.self.inside.wrote_unsynced c.self.inside.blocks.reads c.self.inside.traced c.self.inside.manager.purge_threshold) in
     let still : IsStill (g.F.FileSystem.disk c.self.inside.files) c.self.inside.pipes (g.F.FileSystem.disk c.sync.new.files) c.sync.new.self = record {
       pipes = c.in_default.ensures.both;
       same = c.in_default.ensures.call.same;
@@ -244,7 +244,7 @@ returns-clause-goes_on_in_tail g c =
 pub returns-then-self-clause-tail_still : goal.returns-then-self-clause-tail_still
 returns-then-self-clause-tail_still g c =
     let met = g.met.F.FileSystem g.world.𝓛 g.world.𝓜 g.world.𝓡 ((λ s x. x), (λ x. x), (λ x. x), λ x. x) in
-    rw (← c.self.view_is) (λ before batches alone w. written_in_tail (g.F.FileSystem.disk) (parts c.self.inside.files c.self.inside.pipes c.self.inside.traced.tables c.self.inside.is_stopped c.self.inside.wrote_unsynced c.self.inside.blocks.reads) (met.is_named c.self.inside.files) alone before batches w)
+    rw (← c.self.view_is) (λ before batches alone w. written_in_tail (g.F.FileSystem.disk) (parts c.self.inside.files c.self.inside.pipes c.self.inside.traced.tables c.self.inside.is_stopped c.self.inside.wrote_unsynced c.self.inside.blocks.reads c.self.inside.traced c.self.inside.manager.purge_threshold) (met.is_named c.self.inside.files) alone before batches w)
 
 pub returns-in-Err-clause-tail_still : goal.returns-in-Err-clause-tail_still
 returns-in-Err-clause-tail_still g c =

@@ -33,53 +33,53 @@ use Rattle.raft_log_engine.proofs.engine.Engine.write.Goals as goal
 pub returns-then-self-clause-opens_front : goal.returns-then-self-clause-opens_front
 returns-then-self-clause-opens_front g c =
     let met = g.met.F.FileSystem g.world.𝓛 g.world.𝓜 g.world.𝓡 ((λ s x. x), (λ x. x), (λ x. x), λ x. x) in
-    rw (← c.self.view_is) (λ before batches alone w. refused_front (g.F.FileSystem.disk) (parts c.self.inside.files c.self.inside.pipes c.self.inside.traced.tables c.self.inside.is_stopped c.self.inside.wrote_unsynced c.self.inside.blocks.reads) before batches _ (met.is_named c.self.inside.files) alone w)
+    rw (← c.self.view_is) (λ before batches alone w. refused_front (g.F.FileSystem.disk) (parts c.self.inside.files c.self.inside.pipes c.self.inside.traced.tables c.self.inside.is_stopped c.self.inside.wrote_unsynced c.self.inside.blocks.reads c.self.inside.traced c.self.inside.manager.purge_threshold) before batches _ (met.is_named c.self.inside.files) alone w)
 
 pub returns-then-is_empty-clause-answers : goal.returns-then-is_empty-clause-answers
 returns-then-is_empty-clause-answers g c =
-    rw (← c.self.view_is) (ap (λ l. after_batch l (answers_on (g.F.FileSystem.disk) (parts c.self.inside.files c.self.inside.pipes c.self.inside.traced.tables c.self.inside.is_stopped c.self.inside.wrote_unsynced c.self.inside.blocks.reads))) (sym (c.is_empty.ensures.0 c.if-is_empty.true)))
+    rw (← c.self.view_is) (ap (λ l. after_batch l (answers_on (g.F.FileSystem.disk) (parts c.self.inside.files c.self.inside.pipes c.self.inside.traced.tables c.self.inside.is_stopped c.self.inside.wrote_unsynced c.self.inside.blocks.reads c.self.inside.traced c.self.inside.manager.purge_threshold))) (sym (c.is_empty.ensures.0 c.if-is_empty.true)))
 
 pub returns-then-is_empty-clause-written : goal.returns-then-is_empty-clause-written
 returns-then-is_empty-clause-written g c =
-    rw (← c.self.view_is) (λ before batches w. subst (λ l. HasWritten (g.F.FileSystem.disk) (parts c.self.inside.files c.self.inside.pipes c.self.inside.traced.tables c.self.inside.is_stopped c.self.inside.wrote_unsynced c.self.inside.blocks.reads) before l) (sym (no_batch c.args.batch.now.items batches (c.is_empty.ensures.0 c.if-is_empty.true))) w)
+    rw (← c.self.view_is) (λ before batches w. subst (λ l. HasWritten (g.F.FileSystem.disk) (parts c.self.inside.files c.self.inside.pipes c.self.inside.traced.tables c.self.inside.is_stopped c.self.inside.wrote_unsynced c.self.inside.blocks.reads c.self.inside.traced c.self.inside.manager.purge_threshold) before l) (sym (no_batch c.args.batch.now.items batches (c.is_empty.ensures.0 c.if-is_empty.true))) w)
 
 pub returns-then-is_empty-clause-opens_front : goal.returns-then-is_empty-clause-opens_front
 returns-then-is_empty-clause-opens_front g c =
     let met = g.met.F.FileSystem g.world.𝓛 g.world.𝓜 g.world.𝓡 ((λ s x. x), (λ x. x), (λ x. x), λ x. x) in
-    rw (← c.self.view_is) (λ before batches alone w. refused_front (g.F.FileSystem.disk) (parts c.self.inside.files c.self.inside.pipes c.self.inside.traced.tables c.self.inside.is_stopped c.self.inside.wrote_unsynced c.self.inside.blocks.reads) before batches _ (met.is_named c.self.inside.files) alone w)
+    rw (← c.self.view_is) (λ before batches alone w. refused_front (g.F.FileSystem.disk) (parts c.self.inside.files c.self.inside.pipes c.self.inside.traced.tables c.self.inside.is_stopped c.self.inside.wrote_unsynced c.self.inside.blocks.reads c.self.inside.traced c.self.inside.manager.purge_threshold) before batches _ (met.is_named c.self.inside.files) alone w)
 
 pub returns-in_err-len-clause-err : goal.returns-in_err-len-clause-err
 returns-in_err-len-clause-err g c =
-    rw (← c.self.view_is) (λ sound. at_err _ _ (refused (g.F.FileSystem.disk) (parts c.self.inside.files c.self.inside.pipes c.self.inside.traced.tables c.self.inside.is_stopped c.self.inside.wrote_unsynced c.self.inside.blocks.reads) (kept_by (g.F.FileSystem.disk) (parts c.self.inside.files c.self.inside.pipes c.self.inside.traced.tables c.self.inside.is_stopped c.self.inside.wrote_unsynced c.self.inside.blocks.reads) (c.self.invariant c.if-self.false).batches sound.synced) sound.synced c.args.batch.now.items))
+    rw (← c.self.view_is) (λ sound. at_err _ _ (refused (g.F.FileSystem.disk) (parts c.self.inside.files c.self.inside.pipes c.self.inside.traced.tables c.self.inside.is_stopped c.self.inside.wrote_unsynced c.self.inside.blocks.reads c.self.inside.traced c.self.inside.manager.purge_threshold) (kept_by (g.F.FileSystem.disk) (parts c.self.inside.files c.self.inside.pipes c.self.inside.traced.tables c.self.inside.is_stopped c.self.inside.wrote_unsynced c.self.inside.blocks.reads c.self.inside.traced c.self.inside.manager.purge_threshold) (c.self.invariant c.if-self.false).batches sound.synced) sound.synced c.args.batch.now.items))
 
 pub returns-in_err-len-clause-opens_either : goal.returns-in_err-len-clause-opens_either
 returns-in_err-len-clause-opens_either g c =
     let met = g.met.F.FileSystem g.world.𝓛 g.world.𝓜 g.world.𝓡 ((λ s x. x), (λ x. x), (λ x. x), λ x. x) in
-    rw (← c.self.view_is) (λ sound alone. at_err _ _ (refused_opens (g.F.FileSystem.disk) (parts c.self.inside.files c.self.inside.pipes c.self.inside.traced.tables c.self.inside.is_stopped c.self.inside.wrote_unsynced c.self.inside.blocks.reads) alone (kept_by (g.F.FileSystem.disk) (parts c.self.inside.files c.self.inside.pipes c.self.inside.traced.tables c.self.inside.is_stopped c.self.inside.wrote_unsynced c.self.inside.blocks.reads) (c.self.invariant c.if-self.false).batches sound.synced) (met.is_named c.self.inside.files) c.args.batch.now.items))
+    rw (← c.self.view_is) (λ sound alone. at_err _ _ (refused_opens (g.F.FileSystem.disk) (parts c.self.inside.files c.self.inside.pipes c.self.inside.traced.tables c.self.inside.is_stopped c.self.inside.wrote_unsynced c.self.inside.blocks.reads c.self.inside.traced c.self.inside.manager.purge_threshold) alone (kept_by (g.F.FileSystem.disk) (parts c.self.inside.files c.self.inside.pipes c.self.inside.traced.tables c.self.inside.is_stopped c.self.inside.wrote_unsynced c.self.inside.blocks.reads c.self.inside.traced c.self.inside.manager.purge_threshold) (c.self.invariant c.if-self.false).batches sound.synced) (met.is_named c.self.inside.files) c.args.batch.now.items))
 
 pub returns-in_err-len-clause-opens_front : goal.returns-in_err-len-clause-opens_front
 returns-in_err-len-clause-opens_front g c =
     let met = g.met.F.FileSystem g.world.𝓛 g.world.𝓜 g.world.𝓡 ((λ s x. x), (λ x. x), (λ x. x), λ x. x) in
-    rw (← c.self.view_is) (λ before batches alone w. refused_front (g.F.FileSystem.disk) (parts c.self.inside.files c.self.inside.pipes c.self.inside.traced.tables c.self.inside.is_stopped c.self.inside.wrote_unsynced c.self.inside.blocks.reads) before batches _ (met.is_named c.self.inside.files) alone w)
+    rw (← c.self.view_is) (λ before batches alone w. refused_front (g.F.FileSystem.disk) (parts c.self.inside.files c.self.inside.pipes c.self.inside.traced.tables c.self.inside.is_stopped c.self.inside.wrote_unsynced c.self.inside.blocks.reads c.self.inside.traced c.self.inside.manager.purge_threshold) before batches _ (met.is_named c.self.inside.files) alone w)
 
 pub returns-in-Err-clause-err : goal.returns-in-Err-clause-err
 returns-in-Err-clause-err g c =
     let same : c.prepare.new.batch.items ≡ c.args.batch.now.items = c.in_ok-len.ensures.same in
     let plain : list_any holds_mark c.prepare.new.batch.items ≡ false = ap (list_any holds_mark) same ∙ c.in_ok-len.ensures.plain in
-    rw (← c.self.view_is, ← same) (λ sound. failed (g.F.FileSystem.disk) (parts c.self.inside.files c.self.inside.pipes c.self.inside.traced.tables c.self.inside.is_stopped c.self.inside.wrote_unsynced c.self.inside.blocks.reads) (kept_by (g.F.FileSystem.disk) (parts c.self.inside.files c.self.inside.pipes c.self.inside.traced.tables c.self.inside.is_stopped c.self.inside.wrote_unsynced c.self.inside.blocks.reads) (c.self.invariant c.if-self.false).batches sound.synced) sound.synced c.append_batch.new.files c.append_batch.new.pipes c.self.inside.traced.tables (seen_on (g.F.FileSystem.disk c.append_batch.new.files) c.append_batch.new.pipes c.self.inside.traced.tables) c.prepare.new.batch.items plain c.in-Err.ensures.other c.in-Err.ensures.err)
+    rw (← c.self.view_is, ← same) (λ sound. failed (g.F.FileSystem.disk) (parts c.self.inside.files c.self.inside.pipes c.self.inside.traced.tables c.self.inside.is_stopped c.self.inside.wrote_unsynced c.self.inside.blocks.reads c.self.inside.traced c.self.inside.manager.purge_threshold) (kept_by (g.F.FileSystem.disk) (parts c.self.inside.files c.self.inside.pipes c.self.inside.traced.tables c.self.inside.is_stopped c.self.inside.wrote_unsynced c.self.inside.blocks.reads c.self.inside.traced c.self.inside.manager.purge_threshold) (c.self.invariant c.if-self.false).batches sound.synced) sound.synced c.append_batch.new.files c.append_batch.new.pipes c.self.inside.traced.tables c.self.inside.traced c.self.inside.manager.purge_threshold (seen_on (g.F.FileSystem.disk c.append_batch.new.files) c.append_batch.new.pipes c.self.inside.traced.tables) c.prepare.new.batch.items plain c.in-Err.ensures.other c.in-Err.ensures.err)
 
 pub returns-in-Err-clause-others : goal.returns-in-Err-clause-others
 returns-in-Err-clause-others g c =
     let same : c.prepare.new.batch.items ≡ c.args.batch.now.items = c.in_ok-len.ensures.same in
     let plain : list_any holds_mark c.prepare.new.batch.items ≡ false = ap (list_any holds_mark) same ∙ c.in_ok-len.ensures.plain in
-    rw (← c.self.view_is, ← same) (λ synced. others (g.F.FileSystem.disk) (parts c.self.inside.files c.self.inside.pipes c.self.inside.traced.tables c.self.inside.is_stopped c.self.inside.wrote_unsynced c.self.inside.blocks.reads) (c.self.invariant c.if-self.false).batches c.if-self.false c.prepare.new.batch.items _ (λ all. (failed (g.F.FileSystem.disk) (parts c.self.inside.files c.self.inside.pipes c.self.inside.traced.tables c.self.inside.is_stopped c.self.inside.wrote_unsynced c.self.inside.blocks.reads) (kept_by (g.F.FileSystem.disk) (parts c.self.inside.files c.self.inside.pipes c.self.inside.traced.tables c.self.inside.is_stopped c.self.inside.wrote_unsynced c.self.inside.blocks.reads) (c.self.invariant c.if-self.false).batches all) all c.append_batch.new.files c.append_batch.new.pipes c.self.inside.traced.tables (seen_on (g.F.FileSystem.disk c.append_batch.new.files) c.append_batch.new.pipes c.self.inside.traced.tables) c.prepare.new.batch.items plain c.in-Err.ensures.other c.in-Err.ensures.err).leaves_either))
+    rw (← c.self.view_is, ← same) (λ synced. others (g.F.FileSystem.disk) (parts c.self.inside.files c.self.inside.pipes c.self.inside.traced.tables c.self.inside.is_stopped c.self.inside.wrote_unsynced c.self.inside.blocks.reads c.self.inside.traced c.self.inside.manager.purge_threshold) (c.self.invariant c.if-self.false).batches c.if-self.false c.prepare.new.batch.items _ (λ all. (failed (g.F.FileSystem.disk) (parts c.self.inside.files c.self.inside.pipes c.self.inside.traced.tables c.self.inside.is_stopped c.self.inside.wrote_unsynced c.self.inside.blocks.reads c.self.inside.traced c.self.inside.manager.purge_threshold) (kept_by (g.F.FileSystem.disk) (parts c.self.inside.files c.self.inside.pipes c.self.inside.traced.tables c.self.inside.is_stopped c.self.inside.wrote_unsynced c.self.inside.blocks.reads c.self.inside.traced c.self.inside.manager.purge_threshold) (c.self.invariant c.if-self.false).batches all) all c.append_batch.new.files c.append_batch.new.pipes c.self.inside.traced.tables c.self.inside.traced c.self.inside.manager.purge_threshold (seen_on (g.F.FileSystem.disk c.append_batch.new.files) c.append_batch.new.pipes c.self.inside.traced.tables) c.prepare.new.batch.items plain c.in-Err.ensures.other c.in-Err.ensures.err).leaves_either))
 
 pub returns-in-Err-clause-opens_either : goal.returns-in-Err-clause-opens_either
 returns-in-Err-clause-opens_either g c =
     let met = g.met.F.FileSystem g.world.𝓛 g.world.𝓜 g.world.𝓡 ((λ s x. x), (λ x. x), (λ x. x), λ x. x) in
     let same : c.prepare.new.batch.items ≡ c.args.batch.now.items = c.in_ok-len.ensures.same in
     let plain : list_any holds_mark c.prepare.new.batch.items ≡ false = ap (list_any holds_mark) same ∙ c.in_ok-len.ensures.plain in
-    rw (← c.self.view_is, ← same) (λ sound alone. failed_opens (g.F.FileSystem.disk) (parts c.self.inside.files c.self.inside.pipes c.self.inside.traced.tables c.self.inside.is_stopped c.self.inside.wrote_unsynced c.self.inside.blocks.reads) alone (kept_by (g.F.FileSystem.disk) (parts c.self.inside.files c.self.inside.pipes c.self.inside.traced.tables c.self.inside.is_stopped c.self.inside.wrote_unsynced c.self.inside.blocks.reads) (c.self.invariant c.if-self.false).batches sound.synced) c.append_batch.new.files c.append_batch.new.pipes c.prepare.new.batch.items (met.is_named c.append_batch.new.files) (record { paths = c.in-Err.ensures.paths; other = c.in-Err.ensures.other }) c.in-Err.ensures.nearly plain c.in-Err.ensures.err)
+    rw (← c.self.view_is, ← same) (λ sound alone. failed_opens (g.F.FileSystem.disk) (parts c.self.inside.files c.self.inside.pipes c.self.inside.traced.tables c.self.inside.is_stopped c.self.inside.wrote_unsynced c.self.inside.blocks.reads c.self.inside.traced c.self.inside.manager.purge_threshold) alone (kept_by (g.F.FileSystem.disk) (parts c.self.inside.files c.self.inside.pipes c.self.inside.traced.tables c.self.inside.is_stopped c.self.inside.wrote_unsynced c.self.inside.blocks.reads c.self.inside.traced c.self.inside.manager.purge_threshold) (c.self.invariant c.if-self.false).batches sound.synced) c.append_batch.new.files c.append_batch.new.pipes c.prepare.new.batch.items (met.is_named c.append_batch.new.files) (record { paths = c.in-Err.ensures.paths; other = c.in-Err.ensures.other }) c.in-Err.ensures.nearly plain c.in-Err.ensures.err)
 
 pub returns-in-Err-clause-opens_front : goal.returns-in-Err-clause-opens_front
 returns-in-Err-clause-opens_front g c =
@@ -87,26 +87,26 @@ returns-in-Err-clause-opens_front g c =
     let same : c.prepare.new.batch.items ≡ c.args.batch.now.items = c.in_ok-len.ensures.same in
     let plain : list_any holds_mark c.prepare.new.batch.items ≡ false = ap (list_any holds_mark) same ∙ c.in_ok-len.ensures.plain in
     let some = one_batch c.prepare.new.batch.items (λ none. false≢true (sym c.if-is_empty.false ∙ c.is_empty.ensures.1 (sym same ∙ none))) in
-    rw (← c.self.view_is, ← same, some) (λ before batches alone w. failed_front (g.F.FileSystem.disk) (parts c.self.inside.files c.self.inside.pipes c.self.inside.traced.tables c.self.inside.is_stopped c.self.inside.wrote_unsynced c.self.inside.blocks.reads) c.append_batch.new.files c.append_batch.new.pipes c.prepare.new.batch.items before batches (met.is_named c.append_batch.new.files) (record { paths = c.in-Err.ensures.paths; other = c.in-Err.ensures.other }) c.in-Err.ensures.nearly plain c.in-Err.ensures.err alone w)
+    rw (← c.self.view_is, ← same, some) (λ before batches alone w. failed_front (g.F.FileSystem.disk) (parts c.self.inside.files c.self.inside.pipes c.self.inside.traced.tables c.self.inside.is_stopped c.self.inside.wrote_unsynced c.self.inside.blocks.reads c.self.inside.traced c.self.inside.manager.purge_threshold) c.append_batch.new.files c.append_batch.new.pipes c.prepare.new.batch.items before batches (met.is_named c.append_batch.new.files) (record { paths = c.in-Err.ensures.paths; other = c.in-Err.ensures.other }) c.in-Err.ensures.nearly plain c.in-Err.ensures.err alone w)
 
 pub returns-in-Err-apply-clause-err : goal.returns-in-Err-apply-clause-err
 returns-in-Err-apply-clause-err g c =
     let same : c.prepare.new.batch.items ≡ c.args.batch.now.items = c.in_ok-len.ensures.same in
     let plain : list_any holds_mark c.prepare.new.batch.items ≡ false = ap (list_any holds_mark) same ∙ c.in_ok-len.ensures.plain in
-    rw (← c.self.view_is, ← same) (λ sound. failed (g.F.FileSystem.disk) (parts c.self.inside.files c.self.inside.pipes c.self.inside.traced.tables c.self.inside.is_stopped c.self.inside.wrote_unsynced c.self.inside.blocks.reads) (kept_by (g.F.FileSystem.disk) (parts c.self.inside.files c.self.inside.pipes c.self.inside.traced.tables c.self.inside.is_stopped c.self.inside.wrote_unsynced c.self.inside.blocks.reads) (c.self.invariant c.if-self.false).batches sound.synced) sound.synced c.append_batch.new.files c.append_batch.new.pipes c.apply.new.traced.tables (seen_on (g.F.FileSystem.disk c.append_batch.new.files) c.append_batch.new.pipes c.apply.new.traced.tables) c.prepare.new.batch.items plain c.in-Ok.ensures.other (put_leaves (g.F.FileSystem.disk) (parts c.self.inside.files c.self.inside.pipes c.self.inside.traced.tables c.self.inside.is_stopped c.self.inside.wrote_unsynced c.self.inside.blocks.reads) c.append_batch.new.files c.append_batch.new.pipes c.args.sync c.in-Ok.written.id.seq c.prepare.new.batch.items c.in-Ok.ensures.ok))
+    rw (← c.self.view_is, ← same) (λ sound. failed (g.F.FileSystem.disk) (parts c.self.inside.files c.self.inside.pipes c.self.inside.traced.tables c.self.inside.is_stopped c.self.inside.wrote_unsynced c.self.inside.blocks.reads c.self.inside.traced c.self.inside.manager.purge_threshold) (kept_by (g.F.FileSystem.disk) (parts c.self.inside.files c.self.inside.pipes c.self.inside.traced.tables c.self.inside.is_stopped c.self.inside.wrote_unsynced c.self.inside.blocks.reads c.self.inside.traced c.self.inside.manager.purge_threshold) (c.self.invariant c.if-self.false).batches sound.synced) sound.synced c.append_batch.new.files c.append_batch.new.pipes c.apply.new.traced.tables c.apply.new.traced c.self.inside.manager.purge_threshold (seen_on (g.F.FileSystem.disk c.append_batch.new.files) c.append_batch.new.pipes c.apply.new.traced.tables) c.prepare.new.batch.items plain c.in-Ok.ensures.other (put_leaves (g.F.FileSystem.disk) (parts c.self.inside.files c.self.inside.pipes c.self.inside.traced.tables c.self.inside.is_stopped c.self.inside.wrote_unsynced c.self.inside.blocks.reads c.self.inside.traced c.self.inside.manager.purge_threshold) c.append_batch.new.files c.append_batch.new.pipes c.args.sync c.in-Ok.written.id.seq c.prepare.new.batch.items c.in-Ok.ensures.ok))
 
 pub returns-in-Err-apply-clause-others : goal.returns-in-Err-apply-clause-others
 returns-in-Err-apply-clause-others g c =
     let same : c.prepare.new.batch.items ≡ c.args.batch.now.items = c.in_ok-len.ensures.same in
     let plain : list_any holds_mark c.prepare.new.batch.items ≡ false = ap (list_any holds_mark) same ∙ c.in_ok-len.ensures.plain in
-    rw (← c.self.view_is, ← same) (λ synced. others (g.F.FileSystem.disk) (parts c.self.inside.files c.self.inside.pipes c.self.inside.traced.tables c.self.inside.is_stopped c.self.inside.wrote_unsynced c.self.inside.blocks.reads) (c.self.invariant c.if-self.false).batches c.if-self.false c.prepare.new.batch.items _ (λ all. (failed (g.F.FileSystem.disk) (parts c.self.inside.files c.self.inside.pipes c.self.inside.traced.tables c.self.inside.is_stopped c.self.inside.wrote_unsynced c.self.inside.blocks.reads) (kept_by (g.F.FileSystem.disk) (parts c.self.inside.files c.self.inside.pipes c.self.inside.traced.tables c.self.inside.is_stopped c.self.inside.wrote_unsynced c.self.inside.blocks.reads) (c.self.invariant c.if-self.false).batches all) all c.append_batch.new.files c.append_batch.new.pipes c.apply.new.traced.tables (seen_on (g.F.FileSystem.disk c.append_batch.new.files) c.append_batch.new.pipes c.apply.new.traced.tables) c.prepare.new.batch.items plain c.in-Ok.ensures.other (put_leaves (g.F.FileSystem.disk) (parts c.self.inside.files c.self.inside.pipes c.self.inside.traced.tables c.self.inside.is_stopped c.self.inside.wrote_unsynced c.self.inside.blocks.reads) c.append_batch.new.files c.append_batch.new.pipes c.args.sync c.in-Ok.written.id.seq c.prepare.new.batch.items c.in-Ok.ensures.ok)).leaves_either))
+    rw (← c.self.view_is, ← same) (λ synced. others (g.F.FileSystem.disk) (parts c.self.inside.files c.self.inside.pipes c.self.inside.traced.tables c.self.inside.is_stopped c.self.inside.wrote_unsynced c.self.inside.blocks.reads c.self.inside.traced c.self.inside.manager.purge_threshold) (c.self.invariant c.if-self.false).batches c.if-self.false c.prepare.new.batch.items _ (λ all. (failed (g.F.FileSystem.disk) (parts c.self.inside.files c.self.inside.pipes c.self.inside.traced.tables c.self.inside.is_stopped c.self.inside.wrote_unsynced c.self.inside.blocks.reads c.self.inside.traced c.self.inside.manager.purge_threshold) (kept_by (g.F.FileSystem.disk) (parts c.self.inside.files c.self.inside.pipes c.self.inside.traced.tables c.self.inside.is_stopped c.self.inside.wrote_unsynced c.self.inside.blocks.reads c.self.inside.traced c.self.inside.manager.purge_threshold) (c.self.invariant c.if-self.false).batches all) all c.append_batch.new.files c.append_batch.new.pipes c.apply.new.traced.tables c.apply.new.traced c.self.inside.manager.purge_threshold (seen_on (g.F.FileSystem.disk c.append_batch.new.files) c.append_batch.new.pipes c.apply.new.traced.tables) c.prepare.new.batch.items plain c.in-Ok.ensures.other (put_leaves (g.F.FileSystem.disk) (parts c.self.inside.files c.self.inside.pipes c.self.inside.traced.tables c.self.inside.is_stopped c.self.inside.wrote_unsynced c.self.inside.blocks.reads c.self.inside.traced c.self.inside.manager.purge_threshold) c.append_batch.new.files c.append_batch.new.pipes c.args.sync c.in-Ok.written.id.seq c.prepare.new.batch.items c.in-Ok.ensures.ok)).leaves_either))
 
 pub returns-in-Err-apply-clause-opens_either : goal.returns-in-Err-apply-clause-opens_either
 returns-in-Err-apply-clause-opens_either g c =
     let met = g.met.F.FileSystem g.world.𝓛 g.world.𝓜 g.world.𝓡 ((λ s x. x), (λ x. x), (λ x. x), λ x. x) in
     let same : c.prepare.new.batch.items ≡ c.args.batch.now.items = c.in_ok-len.ensures.same in
     let plain : list_any holds_mark c.prepare.new.batch.items ≡ false = ap (list_any holds_mark) same ∙ c.in_ok-len.ensures.plain in
-    rw (← c.self.view_is, ← same) (λ sound alone. failed_opens (g.F.FileSystem.disk) (parts c.self.inside.files c.self.inside.pipes c.self.inside.traced.tables c.self.inside.is_stopped c.self.inside.wrote_unsynced c.self.inside.blocks.reads) alone (kept_by (g.F.FileSystem.disk) (parts c.self.inside.files c.self.inside.pipes c.self.inside.traced.tables c.self.inside.is_stopped c.self.inside.wrote_unsynced c.self.inside.blocks.reads) (c.self.invariant c.if-self.false).batches sound.synced) c.append_batch.new.files c.append_batch.new.pipes c.prepare.new.batch.items (met.is_named c.append_batch.new.files) (record { paths = c.in-Ok.ensures.paths; other = c.in-Ok.ensures.other }) (λ alone. nearly c.append_batch.new.pipes.append (g.F.FileSystem.disk c.append_batch.new.files) (c.in-Ok.ensures.alone alone)) plain (put_leaves (g.F.FileSystem.disk) (parts c.self.inside.files c.self.inside.pipes c.self.inside.traced.tables c.self.inside.is_stopped c.self.inside.wrote_unsynced c.self.inside.blocks.reads) c.append_batch.new.files c.append_batch.new.pipes c.args.sync c.in-Ok.written.id.seq c.prepare.new.batch.items c.in-Ok.ensures.ok))
+    rw (← c.self.view_is, ← same) (λ sound alone. failed_opens (g.F.FileSystem.disk) (parts c.self.inside.files c.self.inside.pipes c.self.inside.traced.tables c.self.inside.is_stopped c.self.inside.wrote_unsynced c.self.inside.blocks.reads c.self.inside.traced c.self.inside.manager.purge_threshold) alone (kept_by (g.F.FileSystem.disk) (parts c.self.inside.files c.self.inside.pipes c.self.inside.traced.tables c.self.inside.is_stopped c.self.inside.wrote_unsynced c.self.inside.blocks.reads c.self.inside.traced c.self.inside.manager.purge_threshold) (c.self.invariant c.if-self.false).batches sound.synced) c.append_batch.new.files c.append_batch.new.pipes c.prepare.new.batch.items (met.is_named c.append_batch.new.files) (record { paths = c.in-Ok.ensures.paths; other = c.in-Ok.ensures.other }) (λ alone. nearly c.append_batch.new.pipes.append (g.F.FileSystem.disk c.append_batch.new.files) (c.in-Ok.ensures.alone alone)) plain (put_leaves (g.F.FileSystem.disk) (parts c.self.inside.files c.self.inside.pipes c.self.inside.traced.tables c.self.inside.is_stopped c.self.inside.wrote_unsynced c.self.inside.blocks.reads c.self.inside.traced c.self.inside.manager.purge_threshold) c.append_batch.new.files c.append_batch.new.pipes c.args.sync c.in-Ok.written.id.seq c.prepare.new.batch.items c.in-Ok.ensures.ok))
 
 pub returns-in-Err-apply-clause-opens_front : goal.returns-in-Err-apply-clause-opens_front
 returns-in-Err-apply-clause-opens_front g c =
@@ -114,13 +114,13 @@ returns-in-Err-apply-clause-opens_front g c =
     let same : c.prepare.new.batch.items ≡ c.args.batch.now.items = c.in_ok-len.ensures.same in
     let plain : list_any holds_mark c.prepare.new.batch.items ≡ false = ap (list_any holds_mark) same ∙ c.in_ok-len.ensures.plain in
     let some = one_batch c.prepare.new.batch.items (λ none. false≢true (sym c.if-is_empty.false ∙ c.is_empty.ensures.1 (sym same ∙ none))) in
-    rw (← c.self.view_is, ← same, some) (λ before batches alone w. failed_front (g.F.FileSystem.disk) (parts c.self.inside.files c.self.inside.pipes c.self.inside.traced.tables c.self.inside.is_stopped c.self.inside.wrote_unsynced c.self.inside.blocks.reads) c.append_batch.new.files c.append_batch.new.pipes c.prepare.new.batch.items before batches (met.is_named c.append_batch.new.files) (record { paths = c.in-Ok.ensures.paths; other = c.in-Ok.ensures.other }) (λ alone. nearly c.append_batch.new.pipes.append (g.F.FileSystem.disk c.append_batch.new.files) (c.in-Ok.ensures.alone alone)) plain (put_leaves (g.F.FileSystem.disk) (parts c.self.inside.files c.self.inside.pipes c.self.inside.traced.tables c.self.inside.is_stopped c.self.inside.wrote_unsynced c.self.inside.blocks.reads) c.append_batch.new.files c.append_batch.new.pipes c.args.sync c.in-Ok.written.id.seq c.prepare.new.batch.items c.in-Ok.ensures.ok) alone w)
+    rw (← c.self.view_is, ← same, some) (λ before batches alone w. failed_front (g.F.FileSystem.disk) (parts c.self.inside.files c.self.inside.pipes c.self.inside.traced.tables c.self.inside.is_stopped c.self.inside.wrote_unsynced c.self.inside.blocks.reads c.self.inside.traced c.self.inside.manager.purge_threshold) c.append_batch.new.files c.append_batch.new.pipes c.prepare.new.batch.items before batches (met.is_named c.append_batch.new.files) (record { paths = c.in-Ok.ensures.paths; other = c.in-Ok.ensures.other }) (λ alone. nearly c.append_batch.new.pipes.append (g.F.FileSystem.disk c.append_batch.new.files) (c.in-Ok.ensures.alone alone)) plain (put_leaves (g.F.FileSystem.disk) (parts c.self.inside.files c.self.inside.pipes c.self.inside.traced.tables c.self.inside.is_stopped c.self.inside.wrote_unsynced c.self.inside.blocks.reads c.self.inside.traced c.self.inside.manager.purge_threshold) c.append_batch.new.files c.append_batch.new.pipes c.args.sync c.in-Ok.written.id.seq c.prepare.new.batch.items c.in-Ok.ensures.ok) alone w)
 
 pub invariant_of-self-2 : goal.invariant_of-self-2
 invariant_of-self-2 g c =
     let same : c.prepare.new.batch.items ≡ c.args.batch.now.items = c.in_ok-len.ensures.same in
     let plain : list_any holds_mark c.prepare.new.batch.items ≡ false = ap (list_any holds_mark) same ∙ c.in_ok-len.ensures.plain in
-    let done = done_from (g.F.FileSystem.disk) (parts c.self.inside.files c.self.inside.pipes c.self.inside.traced.tables c.self.inside.is_stopped c.self.inside.wrote_unsynced c.self.inside.blocks.reads) c.append_batch.new.files c.append_batch.new.pipes c.apply.new.traced.tables c.args.sync c.prepare.new.batch.items c.append_batch.new.batch.items c.in-Ok.written
+    let done = done_from (g.F.FileSystem.disk) (parts c.self.inside.files c.self.inside.pipes c.self.inside.traced.tables c.self.inside.is_stopped c.self.inside.wrote_unsynced c.self.inside.blocks.reads c.self.inside.traced c.self.inside.manager.purge_threshold) c.append_batch.new.files c.append_batch.new.pipes c.apply.new.traced.tables c.args.sync c.prepare.new.batch.items c.append_batch.new.batch.items c.in-Ok.written
     c.entries_block-block.result c.drain-items.result (sym c.in-Ok.ensures.batch) (ap (list_any holds_mark) c.in-Ok.ensures.batch ∙ plain) c.in-Ok.ensures.pipes c.in-Ok.ensures.files c.in-Ok.ensures.other c.in-Ok.ensures.ok c.in-Ok.ensures.stands c.entries_block-block.ensures c.in_default.ensures.ok c.drain-items.ensures.items (ap with_lengths c.drain-items.ensures.places ∙ placed_lengths 0 c.append_batch.new.batch.items) in
     let noted : IsNoted c.self.inside.traced c.apply.new.traced c.in-Ok.written c.prepare.new.batch.items =
     record {
@@ -137,23 +137,23 @@ invariant_of-self-2 g c =
       marked = c.in_default.ensures.marked;
       parted = c.in_default.ensures.parted;
     } in
-    λ goes_on. done_blocks (g.F.FileSystem.disk) (parts c.self.inside.files c.self.inside.pipes c.self.inside.traced.tables c.self.inside.is_stopped c.self.inside.wrote_unsynced c.self.inside.blocks.reads) c.append_batch.new.files c.append_batch.new.pipes c.apply.new.traced.tables c.args.sync c.prepare.new.batch.items c.in-Ok.written c.entries_block-block.result c.drain-items.result done c.self.inside.traced.traces c.apply.new.traced.traces c.self.inside.traced.has_marked c.apply.new.traced.has_marked c.self.inside.traced.is_parted c.apply.new.traced.is_parted c.self.inside.traced.written c.apply.new.traced.written c.self.inside.blocks (c.self.invariant c.if-self.false) noted c.skips_sync-self-inside.result c.skips_sync-self-inside.ensures.none
+    λ goes_on. done_blocks (g.F.FileSystem.disk) (parts c.self.inside.files c.self.inside.pipes c.self.inside.traced.tables c.self.inside.is_stopped c.self.inside.wrote_unsynced c.self.inside.blocks.reads c.self.inside.traced c.self.inside.manager.purge_threshold) c.append_batch.new.files c.append_batch.new.pipes c.apply.new.traced.tables c.args.sync c.prepare.new.batch.items c.in-Ok.written c.entries_block-block.result c.drain-items.result done c.self.inside.traced.traces c.apply.new.traced.traces c.self.inside.traced.has_marked c.apply.new.traced.has_marked c.self.inside.traced.is_parted c.apply.new.traced.is_parted c.self.inside.traced.written c.apply.new.traced.written c.self.inside.blocks (c.self.invariant c.if-self.false) noted c.skips_sync-self-inside.result c.skips_sync-self-inside.ensures.none
 
 pub returns-clause-answers : goal.returns-clause-answers
 returns-clause-answers g c =
     let same : c.prepare.new.batch.items ≡ c.args.batch.now.items = c.in_ok-len.ensures.same in
     let plain : list_any holds_mark c.prepare.new.batch.items ≡ false = ap (list_any holds_mark) same ∙ c.in_ok-len.ensures.plain in
-    let done = done_from (g.F.FileSystem.disk) (parts c.self.inside.files c.self.inside.pipes c.self.inside.traced.tables c.self.inside.is_stopped c.self.inside.wrote_unsynced c.self.inside.blocks.reads) c.append_batch.new.files c.append_batch.new.pipes c.apply.new.traced.tables c.args.sync c.prepare.new.batch.items c.append_batch.new.batch.items c.in-Ok.written
+    let done = done_from (g.F.FileSystem.disk) (parts c.self.inside.files c.self.inside.pipes c.self.inside.traced.tables c.self.inside.is_stopped c.self.inside.wrote_unsynced c.self.inside.blocks.reads c.self.inside.traced c.self.inside.manager.purge_threshold) c.append_batch.new.files c.append_batch.new.pipes c.apply.new.traced.tables c.args.sync c.prepare.new.batch.items c.append_batch.new.batch.items c.in-Ok.written
     c.entries_block-block.result c.drain-items.result (sym c.in-Ok.ensures.batch) (ap (list_any holds_mark) c.in-Ok.ensures.batch ∙ plain) c.in-Ok.ensures.pipes c.in-Ok.ensures.files c.in-Ok.ensures.other c.in-Ok.ensures.ok c.in-Ok.ensures.stands c.entries_block-block.ensures c.in_default.ensures.ok c.drain-items.ensures.items (ap with_lengths c.drain-items.ensures.places ∙ placed_lengths 0 c.append_batch.new.batch.items) in
-    rw (← c.self.view_is, ← same) (done_seen (g.F.FileSystem.disk) (parts c.self.inside.files c.self.inside.pipes c.self.inside.traced.tables c.self.inside.is_stopped c.self.inside.wrote_unsynced c.self.inside.blocks.reads) c.append_batch.new.files c.append_batch.new.pipes c.apply.new.traced.tables c.args.sync c.prepare.new.batch.items c.in-Ok.written c.entries_block-block.result c.drain-items.result done (c.self.invariant c.if-self.false).batches)
+    rw (← c.self.view_is, ← same) (done_seen (g.F.FileSystem.disk) (parts c.self.inside.files c.self.inside.pipes c.self.inside.traced.tables c.self.inside.is_stopped c.self.inside.wrote_unsynced c.self.inside.blocks.reads c.self.inside.traced c.self.inside.manager.purge_threshold) c.append_batch.new.files c.append_batch.new.pipes c.apply.new.traced.tables c.args.sync c.prepare.new.batch.items c.in-Ok.written c.entries_block-block.result c.drain-items.result done (c.self.invariant c.if-self.false).batches)
 
 pub returns-clause-ok : goal.returns-clause-ok
 returns-clause-ok g c =
     let same : c.prepare.new.batch.items ≡ c.args.batch.now.items = c.in_ok-len.ensures.same in
     let plain : list_any holds_mark c.prepare.new.batch.items ≡ false = ap (list_any holds_mark) same ∙ c.in_ok-len.ensures.plain in
-    let done = done_from (g.F.FileSystem.disk) (parts c.self.inside.files c.self.inside.pipes c.self.inside.traced.tables c.self.inside.is_stopped c.self.inside.wrote_unsynced c.self.inside.blocks.reads) c.append_batch.new.files c.append_batch.new.pipes c.apply.new.traced.tables c.args.sync c.prepare.new.batch.items c.append_batch.new.batch.items c.in-Ok.written
+    let done = done_from (g.F.FileSystem.disk) (parts c.self.inside.files c.self.inside.pipes c.self.inside.traced.tables c.self.inside.is_stopped c.self.inside.wrote_unsynced c.self.inside.blocks.reads c.self.inside.traced c.self.inside.manager.purge_threshold) c.append_batch.new.files c.append_batch.new.pipes c.apply.new.traced.tables c.args.sync c.prepare.new.batch.items c.append_batch.new.batch.items c.in-Ok.written
     c.entries_block-block.result c.drain-items.result (sym c.in-Ok.ensures.batch) (ap (list_any holds_mark) c.in-Ok.ensures.batch ∙ plain) c.in-Ok.ensures.pipes c.in-Ok.ensures.files c.in-Ok.ensures.other c.in-Ok.ensures.ok c.in-Ok.ensures.stands c.entries_block-block.ensures c.in_default.ensures.ok c.drain-items.ensures.items (ap with_lengths c.drain-items.ensures.places ∙ placed_lengths 0 c.append_batch.new.batch.items) in
-    rw (← c.self.view_is, ← same) (λ sound synced. done_written (g.F.FileSystem.disk) (parts c.self.inside.files c.self.inside.pipes c.self.inside.traced.tables c.self.inside.is_stopped c.self.inside.wrote_unsynced c.self.inside.blocks.reads) c.append_batch.new.files c.append_batch.new.pipes c.apply.new.traced.tables c.args.sync c.prepare.new.batch.items c.in-Ok.written c.entries_block-block.result c.drain-items.result done (c.self.invariant c.if-self.false).batches synced c.self.inside.is_stopped c.skips_sync-self-inside.result (c.skips_sync-self-inside.ensures.synced synced ∙ sound.synced))
+    rw (← c.self.view_is, ← same) (λ sound synced. done_written (g.F.FileSystem.disk) (parts c.self.inside.files c.self.inside.pipes c.self.inside.traced.tables c.self.inside.is_stopped c.self.inside.wrote_unsynced c.self.inside.blocks.reads c.self.inside.traced c.self.inside.manager.purge_threshold) c.append_batch.new.files c.append_batch.new.pipes c.apply.new.traced.tables c.args.sync c.prepare.new.batch.items c.in-Ok.written c.entries_block-block.result c.drain-items.result done (c.self.invariant c.if-self.false).batches synced c.self.inside.is_stopped c.skips_sync-self-inside.result (c.skips_sync-self-inside.ensures.synced synced ∙ sound.synced))
 
 pub returns-clause-sound : goal.returns-clause-sound
 returns-clause-sound g c =
@@ -168,9 +168,9 @@ returns-clause-opens g c =
     let met = g.met.F.FileSystem g.world.𝓛 g.world.𝓜 g.world.𝓡 ((λ s x. x), (λ x. x), (λ x. x), λ x. x) in
     let same : c.prepare.new.batch.items ≡ c.args.batch.now.items = c.in_ok-len.ensures.same in
     let plain : list_any holds_mark c.prepare.new.batch.items ≡ false = ap (list_any holds_mark) same ∙ c.in_ok-len.ensures.plain in
-    let done = done_from (g.F.FileSystem.disk) (parts c.self.inside.files c.self.inside.pipes c.self.inside.traced.tables c.self.inside.is_stopped c.self.inside.wrote_unsynced c.self.inside.blocks.reads) c.append_batch.new.files c.append_batch.new.pipes c.apply.new.traced.tables c.args.sync c.prepare.new.batch.items c.append_batch.new.batch.items c.in-Ok.written
+    let done = done_from (g.F.FileSystem.disk) (parts c.self.inside.files c.self.inside.pipes c.self.inside.traced.tables c.self.inside.is_stopped c.self.inside.wrote_unsynced c.self.inside.blocks.reads c.self.inside.traced c.self.inside.manager.purge_threshold) c.append_batch.new.files c.append_batch.new.pipes c.apply.new.traced.tables c.args.sync c.prepare.new.batch.items c.append_batch.new.batch.items c.in-Ok.written
     c.entries_block-block.result c.drain-items.result (sym c.in-Ok.ensures.batch) (ap (list_any holds_mark) c.in-Ok.ensures.batch ∙ plain) c.in-Ok.ensures.pipes c.in-Ok.ensures.files c.in-Ok.ensures.other c.in-Ok.ensures.ok c.in-Ok.ensures.stands c.entries_block-block.ensures c.in_default.ensures.ok c.drain-items.ensures.items (ap with_lengths c.drain-items.ensures.places ∙ placed_lengths 0 c.append_batch.new.batch.items) in
-    rw (← c.self.view_is) (λ alone synced. done_opens (g.F.FileSystem.disk) (parts c.self.inside.files c.self.inside.pipes c.self.inside.traced.tables c.self.inside.is_stopped c.self.inside.wrote_unsynced c.self.inside.blocks.reads) alone (c.self.invariant c.if-self.false).batches c.append_batch.new.files c.append_batch.new.pipes c.apply.new.traced.tables c.args.sync c.prepare.new.batch.items c.in-Ok.written
+    rw (← c.self.view_is) (λ alone synced. done_opens (g.F.FileSystem.disk) (parts c.self.inside.files c.self.inside.pipes c.self.inside.traced.tables c.self.inside.is_stopped c.self.inside.wrote_unsynced c.self.inside.blocks.reads c.self.inside.traced c.self.inside.manager.purge_threshold) alone (c.self.invariant c.if-self.false).batches c.append_batch.new.files c.append_batch.new.pipes c.apply.new.traced.tables c.args.sync c.prepare.new.batch.items c.in-Ok.written
     c.entries_block-block.result c.drain-items.result (met.is_named c.append_batch.new.files) (stand_on c.self.inside.pipes c.append_batch.new.pipes (g.F.FileSystem.disk c.self.inside.files) (g.F.FileSystem.disk c.append_batch.new.files) (record { paths = c.in-Ok.ensures.paths; other = c.in-Ok.ensures.other }) alone (c.in-Ok.ensures.alone alone.append)) done synced)
 
 pub returns-clause-written : goal.returns-clause-written
@@ -178,7 +178,7 @@ returns-clause-written g c =
     let same : c.prepare.new.batch.items ≡ c.args.batch.now.items = c.in_ok-len.ensures.same in
     let plain : list_any holds_mark c.prepare.new.batch.items ≡ false = ap (list_any holds_mark) same ∙ c.in_ok-len.ensures.plain in
     let some = one_batch c.prepare.new.batch.items (λ none. false≢true (sym c.if-is_empty.false ∙ c.is_empty.ensures.1 (sym same ∙ none))) in
-    rw (← c.self.view_is, ← same, some) (λ before batches w. more_written (g.F.FileSystem.disk) (parts c.self.inside.files c.self.inside.pipes c.self.inside.traced.tables c.self.inside.is_stopped c.self.inside.wrote_unsynced c.self.inside.blocks.reads) (parts c.append_batch.new.files c.append_batch.new.pipes c.apply.new.traced.tables c.self.inside.is_stopped c.skips_sync-self-inside.result c.self.inside.blocks.reads) c.args.sync before batches c.in-Ok.written.id.seq c.prepare.new.batch.items c.in-Ok.ensures.other c.in-Ok.ensures.ok plain w)
+    rw (← c.self.view_is, ← same, some) (λ before batches w. more_written (g.F.FileSystem.disk) (parts c.self.inside.files c.self.inside.pipes c.self.inside.traced.tables c.self.inside.is_stopped c.self.inside.wrote_unsynced c.self.inside.blocks.reads c.self.inside.traced c.self.inside.manager.purge_threshold) (parts c.append_batch.new.files c.append_batch.new.pipes c.apply.new.traced.tables c.self.inside.is_stopped c.skips_sync-self-inside.result c.self.inside.blocks.reads c.apply.new.traced c.self.inside.manager.purge_threshold) c.args.sync before batches c.in-Ok.written.id.seq c.prepare.new.batch.items c.in-Ok.ensures.other c.in-Ok.ensures.ok plain w)
 
 pub returns-clause-opens_front : goal.returns-clause-opens_front
 returns-clause-opens_front g c =
@@ -186,35 +186,35 @@ returns-clause-opens_front g c =
     let same : c.prepare.new.batch.items ≡ c.args.batch.now.items = c.in_ok-len.ensures.same in
     let plain : list_any holds_mark c.prepare.new.batch.items ≡ false = ap (list_any holds_mark) same ∙ c.in_ok-len.ensures.plain in
     let some = one_batch c.prepare.new.batch.items (λ none. false≢true (sym c.if-is_empty.false ∙ c.is_empty.ensures.1 (sym same ∙ none))) in
-    rw (← c.self.view_is, ← same, some) (λ before batches alone w. written_opens (g.F.FileSystem.disk) (parts c.append_batch.new.files c.append_batch.new.pipes c.apply.new.traced.tables c.self.inside.is_stopped c.skips_sync-self-inside.result c.self.inside.blocks.reads) before _ (met.is_named c.append_batch.new.files)
+    rw (← c.self.view_is, ← same, some) (λ before batches alone w. written_opens (g.F.FileSystem.disk) (parts c.append_batch.new.files c.append_batch.new.pipes c.apply.new.traced.tables c.self.inside.is_stopped c.skips_sync-self-inside.result c.self.inside.blocks.reads c.apply.new.traced c.self.inside.manager.purge_threshold) before _ (met.is_named c.append_batch.new.files)
     (stand_on c.self.inside.pipes c.append_batch.new.pipes (g.F.FileSystem.disk c.self.inside.files) (g.F.FileSystem.disk c.append_batch.new.files) (record { paths = c.in-Ok.ensures.paths; other = c.in-Ok.ensures.other }) alone (c.in-Ok.ensures.alone alone.append))
-    (more_written (g.F.FileSystem.disk) (parts c.self.inside.files c.self.inside.pipes c.self.inside.traced.tables c.self.inside.is_stopped c.self.inside.wrote_unsynced c.self.inside.blocks.reads) (parts c.append_batch.new.files c.append_batch.new.pipes c.apply.new.traced.tables c.self.inside.is_stopped c.skips_sync-self-inside.result c.self.inside.blocks.reads) c.args.sync before batches c.in-Ok.written.id.seq c.prepare.new.batch.items c.in-Ok.ensures.other c.in-Ok.ensures.ok plain w))
+    (more_written (g.F.FileSystem.disk) (parts c.self.inside.files c.self.inside.pipes c.self.inside.traced.tables c.self.inside.is_stopped c.self.inside.wrote_unsynced c.self.inside.blocks.reads c.self.inside.traced c.self.inside.manager.purge_threshold) (parts c.append_batch.new.files c.append_batch.new.pipes c.apply.new.traced.tables c.self.inside.is_stopped c.skips_sync-self-inside.result c.self.inside.blocks.reads c.apply.new.traced c.self.inside.manager.purge_threshold) c.args.sync before batches c.in-Ok.written.id.seq c.prepare.new.batch.items c.in-Ok.ensures.other c.in-Ok.ensures.ok plain w))
 
 pub returns-clause-all_written : goal.returns-clause-all_written
 returns-clause-all_written g c =
     let same : c.prepare.new.batch.items ≡ c.args.batch.now.items = c.in_ok-len.ensures.same in
     let plain : list_any holds_mark c.prepare.new.batch.items ≡ false = ap (list_any holds_mark) same ∙ c.in_ok-len.ensures.plain in
-    let done = done_from (g.F.FileSystem.disk) (parts c.self.inside.files c.self.inside.pipes c.self.inside.traced.tables c.self.inside.is_stopped c.self.inside.wrote_unsynced c.self.inside.blocks.reads) c.append_batch.new.files c.append_batch.new.pipes c.apply.new.traced.tables c.args.sync c.prepare.new.batch.items c.append_batch.new.batch.items c.in-Ok.written
+    let done = done_from (g.F.FileSystem.disk) (parts c.self.inside.files c.self.inside.pipes c.self.inside.traced.tables c.self.inside.is_stopped c.self.inside.wrote_unsynced c.self.inside.blocks.reads c.self.inside.traced c.self.inside.manager.purge_threshold) c.append_batch.new.files c.append_batch.new.pipes c.apply.new.traced.tables c.args.sync c.prepare.new.batch.items c.append_batch.new.batch.items c.in-Ok.written
     c.entries_block-block.result c.drain-items.result (sym c.in-Ok.ensures.batch) (ap (list_any holds_mark) c.in-Ok.ensures.batch ∙ plain) c.in-Ok.ensures.pipes c.in-Ok.ensures.files c.in-Ok.ensures.other c.in-Ok.ensures.ok c.in-Ok.ensures.stands c.entries_block-block.ensures c.in_default.ensures.ok c.drain-items.ensures.items (ap with_lengths c.drain-items.ensures.places ∙ placed_lengths 0 c.append_batch.new.batch.items) in
     let held = (c.self.invariant c.if-self.false).batches in
-    λ synced. let kept = done_kept (g.F.FileSystem.disk) (parts c.self.inside.files c.self.inside.pipes c.self.inside.traced.tables c.self.inside.is_stopped c.self.inside.wrote_unsynced c.self.inside.blocks.reads) c.append_batch.new.files c.append_batch.new.pipes c.apply.new.traced.tables c.args.sync c.prepare.new.batch.items c.in-Ok.written c.entries_block-block.result c.drain-items.result done synced held.rewrites held.synced held.unsynced held.held in
-    nothing_since (g.F.FileSystem.disk) (parts c.append_batch.new.files c.append_batch.new.pipes c.apply.new.traced.tables c.self.inside.is_stopped c.skips_sync-self-inside.result c.self.inside.blocks.reads) _ _ kept.rewrite kept.append (answers_on (g.F.FileSystem.disk) (parts c.append_batch.new.files c.append_batch.new.pipes c.apply.new.traced.tables c.self.inside.is_stopped c.skips_sync-self-inside.result c.self.inside.blocks.reads)) (answered (g.F.FileSystem.disk c.append_batch.new.files) c.append_batch.new.pipes c.apply.new.traced.tables _ _ kept)
+    λ synced. let kept = done_kept (g.F.FileSystem.disk) (parts c.self.inside.files c.self.inside.pipes c.self.inside.traced.tables c.self.inside.is_stopped c.self.inside.wrote_unsynced c.self.inside.blocks.reads c.self.inside.traced c.self.inside.manager.purge_threshold) c.append_batch.new.files c.append_batch.new.pipes c.apply.new.traced.tables c.args.sync c.prepare.new.batch.items c.in-Ok.written c.entries_block-block.result c.drain-items.result done synced held.rewrites held.synced held.unsynced held.held in
+    nothing_since (g.F.FileSystem.disk) (parts c.append_batch.new.files c.append_batch.new.pipes c.apply.new.traced.tables c.self.inside.is_stopped c.skips_sync-self-inside.result c.self.inside.blocks.reads c.apply.new.traced c.self.inside.manager.purge_threshold) _ _ kept.rewrite kept.append (answers_on (g.F.FileSystem.disk) (parts c.append_batch.new.files c.append_batch.new.pipes c.apply.new.traced.tables c.self.inside.is_stopped c.skips_sync-self-inside.result c.self.inside.blocks.reads c.apply.new.traced c.self.inside.manager.purge_threshold)) (answered (g.F.FileSystem.disk c.append_batch.new.files) c.append_batch.new.pipes c.apply.new.traced.tables _ _ kept)
 
 pub returns-clause-others : goal.returns-clause-others
 returns-clause-others g c =
     let same : c.prepare.new.batch.items ≡ c.args.batch.now.items = c.in_ok-len.ensures.same in
     let plain : list_any holds_mark c.prepare.new.batch.items ≡ false = ap (list_any holds_mark) same ∙ c.in_ok-len.ensures.plain in
-    let done = done_from (g.F.FileSystem.disk) (parts c.self.inside.files c.self.inside.pipes c.self.inside.traced.tables c.self.inside.is_stopped c.self.inside.wrote_unsynced c.self.inside.blocks.reads) c.append_batch.new.files c.append_batch.new.pipes c.apply.new.traced.tables c.args.sync c.prepare.new.batch.items c.append_batch.new.batch.items c.in-Ok.written
+    let done = done_from (g.F.FileSystem.disk) (parts c.self.inside.files c.self.inside.pipes c.self.inside.traced.tables c.self.inside.is_stopped c.self.inside.wrote_unsynced c.self.inside.blocks.reads c.self.inside.traced c.self.inside.manager.purge_threshold) c.append_batch.new.files c.append_batch.new.pipes c.apply.new.traced.tables c.args.sync c.prepare.new.batch.items c.append_batch.new.batch.items c.in-Ok.written
     c.entries_block-block.result c.drain-items.result (sym c.in-Ok.ensures.batch) (ap (list_any holds_mark) c.in-Ok.ensures.batch ∙ plain) c.in-Ok.ensures.pipes c.in-Ok.ensures.files c.in-Ok.ensures.other c.in-Ok.ensures.ok c.in-Ok.ensures.stands c.entries_block-block.ensures c.in_default.ensures.ok c.drain-items.ensures.items (ap with_lengths c.drain-items.ensures.places ∙ placed_lengths 0 c.append_batch.new.batch.items) in
-    rw (← c.self.view_is, ← same) (λ synced. others (g.F.FileSystem.disk) (parts c.self.inside.files c.self.inside.pipes c.self.inside.traced.tables c.self.inside.is_stopped c.self.inside.wrote_unsynced c.self.inside.blocks.reads) (c.self.invariant c.if-self.false).batches c.if-self.false c.prepare.new.batch.items _ (λ all left may. inr ((done_written (g.F.FileSystem.disk) (parts c.self.inside.files c.self.inside.pipes c.self.inside.traced.tables c.self.inside.is_stopped c.self.inside.wrote_unsynced c.self.inside.blocks.reads) c.append_batch.new.files c.append_batch.new.pipes c.apply.new.traced.tables c.args.sync c.prepare.new.batch.items c.in-Ok.written c.entries_block-block.result c.drain-items.result done (c.self.invariant c.if-self.false).batches synced c.self.inside.is_stopped c.skips_sync-self-inside.result (c.skips_sync-self-inside.ensures.synced synced ∙ all)).leaves_only left may)))
+    rw (← c.self.view_is, ← same) (λ synced. others (g.F.FileSystem.disk) (parts c.self.inside.files c.self.inside.pipes c.self.inside.traced.tables c.self.inside.is_stopped c.self.inside.wrote_unsynced c.self.inside.blocks.reads c.self.inside.traced c.self.inside.manager.purge_threshold) (c.self.invariant c.if-self.false).batches c.if-self.false c.prepare.new.batch.items _ (λ all left may. inr ((done_written (g.F.FileSystem.disk) (parts c.self.inside.files c.self.inside.pipes c.self.inside.traced.tables c.self.inside.is_stopped c.self.inside.wrote_unsynced c.self.inside.blocks.reads c.self.inside.traced c.self.inside.manager.purge_threshold) c.append_batch.new.files c.append_batch.new.pipes c.apply.new.traced.tables c.args.sync c.prepare.new.batch.items c.in-Ok.written c.entries_block-block.result c.drain-items.result done (c.self.invariant c.if-self.false).batches synced c.self.inside.is_stopped c.skips_sync-self-inside.result (c.skips_sync-self-inside.ensures.synced synced ∙ all)).leaves_only left may)))
 
 pub returns-clause-others_answered : goal.returns-clause-others_answered
 returns-clause-others_answered g c =
     let same : c.prepare.new.batch.items ≡ c.args.batch.now.items = c.in_ok-len.ensures.same in
     let plain : list_any holds_mark c.prepare.new.batch.items ≡ false = ap (list_any holds_mark) same ∙ c.in_ok-len.ensures.plain in
-    let done = done_from (g.F.FileSystem.disk) (parts c.self.inside.files c.self.inside.pipes c.self.inside.traced.tables c.self.inside.is_stopped c.self.inside.wrote_unsynced c.self.inside.blocks.reads) c.append_batch.new.files c.append_batch.new.pipes c.apply.new.traced.tables c.args.sync c.prepare.new.batch.items c.append_batch.new.batch.items c.in-Ok.written
+    let done = done_from (g.F.FileSystem.disk) (parts c.self.inside.files c.self.inside.pipes c.self.inside.traced.tables c.self.inside.is_stopped c.self.inside.wrote_unsynced c.self.inside.blocks.reads c.self.inside.traced c.self.inside.manager.purge_threshold) c.append_batch.new.files c.append_batch.new.pipes c.apply.new.traced.tables c.args.sync c.prepare.new.batch.items c.append_batch.new.batch.items c.in-Ok.written
     c.entries_block-block.result c.drain-items.result (sym c.in-Ok.ensures.batch) (ap (list_any holds_mark) c.in-Ok.ensures.batch ∙ plain) c.in-Ok.ensures.pipes c.in-Ok.ensures.files c.in-Ok.ensures.other c.in-Ok.ensures.ok c.in-Ok.ensures.stands c.entries_block-block.ensures c.in_default.ensures.ok c.drain-items.ensures.items (ap with_lengths c.drain-items.ensures.places ∙ placed_lengths 0 c.append_batch.new.batch.items) in
-    rw (← c.self.view_is, ← same) (λ sound. (record { goes_on = c.if-self.false; synced = (c.skips_sync-self-inside.ensures.none sound.synced).1 }, agrees c.prepare.new.batch.items (answers_on (g.F.FileSystem.disk) (parts c.self.inside.files c.self.inside.pipes c.self.inside.traced.tables c.self.inside.is_stopped c.self.inside.wrote_unsynced c.self.inside.blocks.reads)) (seen_on (g.F.FileSystem.disk c.append_batch.new.files) c.append_batch.new.pipes c.apply.new.traced.tables) (done_seen (g.F.FileSystem.disk) (parts c.self.inside.files c.self.inside.pipes c.self.inside.traced.tables c.self.inside.is_stopped c.self.inside.wrote_unsynced c.self.inside.blocks.reads) c.append_batch.new.files c.append_batch.new.pipes c.apply.new.traced.tables c.args.sync c.prepare.new.batch.items c.in-Ok.written c.entries_block-block.result c.drain-items.result done (c.self.invariant c.if-self.false).batches)))
+    rw (← c.self.view_is, ← same) (λ sound. (record { goes_on = c.if-self.false; synced = (c.skips_sync-self-inside.ensures.none sound.synced).1 }, agrees c.prepare.new.batch.items (answers_on (g.F.FileSystem.disk) (parts c.self.inside.files c.self.inside.pipes c.self.inside.traced.tables c.self.inside.is_stopped c.self.inside.wrote_unsynced c.self.inside.blocks.reads c.self.inside.traced c.self.inside.manager.purge_threshold)) (seen_on (g.F.FileSystem.disk c.append_batch.new.files) c.append_batch.new.pipes c.apply.new.traced.tables) (done_seen (g.F.FileSystem.disk) (parts c.self.inside.files c.self.inside.pipes c.self.inside.traced.tables c.self.inside.is_stopped c.self.inside.wrote_unsynced c.self.inside.blocks.reads c.self.inside.traced c.self.inside.manager.purge_threshold) c.append_batch.new.files c.append_batch.new.pipes c.apply.new.traced.tables c.args.sync c.prepare.new.batch.items c.in-Ok.written c.entries_block-block.result c.drain-items.result done (c.self.invariant c.if-self.false).batches)))
 
 -- ---- an empty batch, with a sync
 
@@ -266,7 +266,7 @@ apply-requires g c = block_fits c.prepare.new.batch.items c.in-Ok.written.offset
 
 pub returns-then-self-clause-taken : goal.returns-then-self-clause-taken
 returns-then-self-clause-taken g c =
-    rw (← c.self.view_is) (λ free. stopped_write ℕ (g.F.FileSystem.disk) (parts c.self.inside.files c.self.inside.pipes c.self.inside.traced.tables c.self.inside.is_stopped c.self.inside.wrote_unsynced c.self.inside.blocks.reads) c.args.batch.now.items c.if-self.true)
+    rw (← c.self.view_is) (λ free. stopped_write ℕ (g.F.FileSystem.disk) (parts c.self.inside.files c.self.inside.pipes c.self.inside.traced.tables c.self.inside.is_stopped c.self.inside.wrote_unsynced c.self.inside.blocks.reads c.self.inside.traced c.self.inside.manager.purge_threshold) c.args.batch.now.items c.if-self.true)
 
 pub returns-in_err-sync-clause-taken : goal.returns-in_err-sync-clause-taken
 returns-in_err-sync-clause-taken g c = λ free.
@@ -280,13 +280,13 @@ returns-then-is_empty-clause-taken g c = λ free. done_write ℕ (g.F.FileSystem
 
 pub returns-in_err-len-clause-taken : goal.returns-in_err-len-clause-taken
 returns-in_err-len-clause-taken g c =
-    rw (← c.self.view_is) (λ free. refused_write ℕ (g.F.FileSystem.disk) (parts c.self.inside.files c.self.inside.pipes c.self.inside.traced.tables c.self.inside.is_stopped c.self.inside.wrote_unsynced c.self.inside.blocks.reads) c.args.batch.now.items
+    rw (← c.self.view_is) (λ free. refused_write ℕ (g.F.FileSystem.disk) (parts c.self.inside.files c.self.inside.pipes c.self.inside.traced.tables c.self.inside.is_stopped c.self.inside.wrote_unsynced c.self.inside.blocks.reads c.self.inside.traced c.self.inside.manager.purge_threshold) c.args.batch.now.items
     (λ none. false≢true (sym c.if-is_empty.false ∙ c.is_empty.ensures.1 none)) c.from_residual-in_err-len.result c.in_err-len.field-0.0 c.from_residual-in_err-len.ensures.1 c.in_err-len.ensures.err)
 
 pub returns-in-Err-clause-taken : goal.returns-in-Err-clause-taken
 returns-in-Err-clause-taken g c =
     let same : c.prepare.new.batch.items ≡ c.args.batch.now.items = c.in_ok-len.ensures.same in
-    rw (← c.self.view_is, ← same) (λ free. failed_write ℕ (g.F.FileSystem.disk) (parts c.self.inside.files c.self.inside.pipes c.self.inside.traced.tables c.self.inside.is_stopped c.self.inside.wrote_unsynced c.self.inside.blocks.reads) c.prepare.new.batch.items
+    rw (← c.self.view_is, ← same) (λ free. failed_write ℕ (g.F.FileSystem.disk) (parts c.self.inside.files c.self.inside.pipes c.self.inside.traced.tables c.self.inside.is_stopped c.self.inside.wrote_unsynced c.self.inside.blocks.reads c.self.inside.traced c.self.inside.manager.purge_threshold) c.prepare.new.batch.items
     (λ none. false≢true (sym c.if-is_empty.false ∙ c.is_empty.ensures.1 (sym same ∙ none))) c.in-Err.error (c.in-Err.ensures.taken free))
 
 pub returns-in-Err-apply-clause-taken : goal.returns-in-Err-apply-clause-taken
@@ -330,7 +330,7 @@ returns-in-Err-clause-opens_in_tail g c =
 pub returns-in-Err-apply-clause-opens_in_tail : goal.returns-in-Err-apply-clause-opens_in_tail
 returns-in-Err-apply-clause-opens_in_tail g c =
     let met = g.met.F.FileSystem g.world.𝓛 g.world.𝓜 g.world.𝓡 ((λ s x. x), (λ x. x), (λ x. x), λ x. x) in
-    rw (← c.self.view_is) (λ going alone. more_in_tail (g.F.FileSystem.disk) (parts c.self.inside.files c.self.inside.pipes c.self.inside.traced.tables c.self.inside.is_stopped c.self.inside.wrote_unsynced c.self.inside.blocks.reads) (c.self.invariant c.if-self.false).batches c.append_batch.new.files c.append_batch.new.pipes c.args.sync c.in-Ok.written.id.seq c.prepare.new.batch.items
+    rw (← c.self.view_is) (λ going alone. more_in_tail (g.F.FileSystem.disk) (parts c.self.inside.files c.self.inside.pipes c.self.inside.traced.tables c.self.inside.is_stopped c.self.inside.wrote_unsynced c.self.inside.blocks.reads c.self.inside.traced c.self.inside.manager.purge_threshold) (c.self.invariant c.if-self.false).batches c.append_batch.new.files c.append_batch.new.pipes c.args.sync c.in-Ok.written.id.seq c.prepare.new.batch.items
     (met.is_named c.append_batch.new.files)
     (stand_on c.self.inside.pipes c.append_batch.new.pipes (g.F.FileSystem.disk c.self.inside.files) (g.F.FileSystem.disk c.append_batch.new.files) (record { paths = c.in-Ok.ensures.paths; other = c.in-Ok.ensures.other }) alone (c.in-Ok.ensures.alone alone.append))
     c.in-Ok.ensures.other c.in-Ok.ensures.ok)
@@ -338,7 +338,7 @@ returns-in-Err-apply-clause-opens_in_tail g c =
 pub returns-clause-opens_in_tail : goal.returns-clause-opens_in_tail
 returns-clause-opens_in_tail g c =
     let met = g.met.F.FileSystem g.world.𝓛 g.world.𝓜 g.world.𝓡 ((λ s x. x), (λ x. x), (λ x. x), λ x. x) in
-    rw (← c.self.view_is) (λ going alone. more_in_tail (g.F.FileSystem.disk) (parts c.self.inside.files c.self.inside.pipes c.self.inside.traced.tables c.self.inside.is_stopped c.self.inside.wrote_unsynced c.self.inside.blocks.reads) (c.self.invariant c.if-self.false).batches c.append_batch.new.files c.append_batch.new.pipes c.args.sync c.in-Ok.written.id.seq c.prepare.new.batch.items
+    rw (← c.self.view_is) (λ going alone. more_in_tail (g.F.FileSystem.disk) (parts c.self.inside.files c.self.inside.pipes c.self.inside.traced.tables c.self.inside.is_stopped c.self.inside.wrote_unsynced c.self.inside.blocks.reads c.self.inside.traced c.self.inside.manager.purge_threshold) (c.self.invariant c.if-self.false).batches c.append_batch.new.files c.append_batch.new.pipes c.args.sync c.in-Ok.written.id.seq c.prepare.new.batch.items
     (met.is_named c.append_batch.new.files)
     (stand_on c.self.inside.pipes c.append_batch.new.pipes (g.F.FileSystem.disk c.self.inside.files) (g.F.FileSystem.disk c.append_batch.new.files) (record { paths = c.in-Ok.ensures.paths; other = c.in-Ok.ensures.other }) alone (c.in-Ok.ensures.alone alone.append))
     c.in-Ok.ensures.other c.in-Ok.ensures.ok)
@@ -348,7 +348,7 @@ returns-clause-opens_in_tail g c =
 pub returns-then-self-clause-cause : goal.returns-then-self-clause-cause
 returns-then-self-clause-cause g c =
     let m = g.F.FileSystem.meter c.self.inside.files in
-    rw (← c.self.view_is) (stopped_cause (g.F.FileSystem.disk) (parts c.self.inside.files c.self.inside.pipes c.self.inside.traced.tables c.self.inside.is_stopped c.self.inside.wrote_unsynced c.self.inside.blocks.reads) c.args.batch.now.items m m c.if-self.true)
+    rw (← c.self.view_is) (stopped_cause (g.F.FileSystem.disk) (parts c.self.inside.files c.self.inside.pipes c.self.inside.traced.tables c.self.inside.is_stopped c.self.inside.wrote_unsynced c.self.inside.blocks.reads c.self.inside.traced c.self.inside.manager.purge_threshold) c.args.batch.now.items m m c.if-self.true)
 
 pub returns-in_err-sync-clause-cause : goal.returns-in_err-sync-clause-cause
 returns-in_err-sync-clause-cause g c =
@@ -361,14 +361,14 @@ pub returns-in_err-len-clause-cause : goal.returns-in_err-len-clause-cause
 returns-in_err-len-clause-cause g c =
     let m = g.F.FileSystem.meter c.self.inside.files in
     rw (← c.self.view_is) (told_cause c.from_residual-in_err-len.result c.in_err-len.field-0.0
-    (λ (x : EngineFault). IsWriteFault (g.F.FileSystem.disk) (parts c.self.inside.files c.self.inside.pipes c.self.inside.traced.tables c.self.inside.is_stopped c.self.inside.wrote_unsynced c.self.inside.blocks.reads) c.args.batch.now.items m m x) c.from_residual-in_err-len.ensures.1
-    (refused_cause (g.F.FileSystem.disk) (parts c.self.inside.files c.self.inside.pipes c.self.inside.traced.tables c.self.inside.is_stopped c.self.inside.wrote_unsynced c.self.inside.blocks.reads) c.args.batch.now.items m m
+    (λ (x : EngineFault). IsWriteFault (g.F.FileSystem.disk) (parts c.self.inside.files c.self.inside.pipes c.self.inside.traced.tables c.self.inside.is_stopped c.self.inside.wrote_unsynced c.self.inside.blocks.reads c.self.inside.traced c.self.inside.manager.purge_threshold) c.args.batch.now.items m m x) c.from_residual-in_err-len.ensures.1
+    (refused_cause (g.F.FileSystem.disk) (parts c.self.inside.files c.self.inside.pipes c.self.inside.traced.tables c.self.inside.is_stopped c.self.inside.wrote_unsynced c.self.inside.blocks.reads c.self.inside.traced c.self.inside.manager.purge_threshold) c.args.batch.now.items m m
     (λ none. false≢true (sym c.if-is_empty.false ∙ c.is_empty.ensures.1 none)) c.in_err-len.field-0.0 c.in_err-len.ensures.err))
 
 pub returns-in-Err-clause-cause : goal.returns-in-Err-clause-cause
 returns-in-Err-clause-cause g c =
     let same : c.prepare.new.batch.items ≡ c.args.batch.now.items = c.in_ok-len.ensures.same in
-    rw (← c.self.view_is, ← same) (failed_cause (g.F.FileSystem.disk) (parts c.self.inside.files c.self.inside.pipes c.self.inside.traced.tables c.self.inside.is_stopped c.self.inside.wrote_unsynced c.self.inside.blocks.reads) c.prepare.new.batch.items
+    rw (← c.self.view_is, ← same) (failed_cause (g.F.FileSystem.disk) (parts c.self.inside.files c.self.inside.pipes c.self.inside.traced.tables c.self.inside.is_stopped c.self.inside.wrote_unsynced c.self.inside.blocks.reads c.self.inside.traced c.self.inside.manager.purge_threshold) c.prepare.new.batch.items
     (g.F.FileSystem.meter c.self.inside.files) (g.F.FileSystem.meter c.append_batch.new.files)
     (λ none. false≢true (sym c.if-is_empty.false ∙ c.is_empty.ensures.1 (sym same ∙ none))) c.in-Err.error c.in-Err.ensures.cause)
 
@@ -384,12 +384,12 @@ returns-then-self-clause-goes_on_in_tail g c = rw (← c.self.view_is) (λ alone
 pub returns-then-is_empty-clause-goes_on_in_tail : goal.returns-then-is_empty-clause-goes_on_in_tail
 returns-then-is_empty-clause-goes_on_in_tail g c =
     let met = g.met.F.FileSystem g.world.𝓛 g.world.𝓜 g.world.𝓡 ((λ s x. x), (λ x. x), (λ x. x), λ x. x) in
-    rw (← c.self.view_is) (λ alone going. stands_in_tail (g.F.FileSystem.disk) (parts c.self.inside.files c.self.inside.pipes c.self.inside.traced.tables c.self.inside.is_stopped c.self.inside.wrote_unsynced c.self.inside.blocks.reads) (met.is_named c.self.inside.files) alone (c.self.invariant c.if-self.false).batches)
+    rw (← c.self.view_is) (λ alone going. stands_in_tail (g.F.FileSystem.disk) (parts c.self.inside.files c.self.inside.pipes c.self.inside.traced.tables c.self.inside.is_stopped c.self.inside.wrote_unsynced c.self.inside.blocks.reads c.self.inside.traced c.self.inside.manager.purge_threshold) (met.is_named c.self.inside.files) alone (c.self.invariant c.if-self.false).batches)
 
 pub returns-in_err-len-clause-goes_on_in_tail : goal.returns-in_err-len-clause-goes_on_in_tail
 returns-in_err-len-clause-goes_on_in_tail g c =
     let met = g.met.F.FileSystem g.world.𝓛 g.world.𝓜 g.world.𝓡 ((λ s x. x), (λ x. x), (λ x. x), λ x. x) in
-    rw (← c.self.view_is) (λ alone going. stands_in_tail (g.F.FileSystem.disk) (parts c.self.inside.files c.self.inside.pipes c.self.inside.traced.tables c.self.inside.is_stopped c.self.inside.wrote_unsynced c.self.inside.blocks.reads) (met.is_named c.self.inside.files) alone (c.self.invariant c.if-self.false).batches)
+    rw (← c.self.view_is) (λ alone going. stands_in_tail (g.F.FileSystem.disk) (parts c.self.inside.files c.self.inside.pipes c.self.inside.traced.tables c.self.inside.is_stopped c.self.inside.wrote_unsynced c.self.inside.blocks.reads c.self.inside.traced c.self.inside.manager.purge_threshold) (met.is_named c.self.inside.files) alone (c.self.invariant c.if-self.false).batches)
 
 pub returns-in_err-sync-clause-goes_on_in_tail : goal.returns-in_err-sync-clause-goes_on_in_tail
 returns-in_err-sync-clause-goes_on_in_tail g c = c.in_err-sync.ensures.goes_on_in_tail
@@ -410,6 +410,6 @@ returns-clause-goes_on_in_tail g c =
     let stand = stand_on c.self.inside.pipes c.append_batch.new.pipes (g.F.FileSystem.disk c.self.inside.files) (g.F.FileSystem.disk c.append_batch.new.files) (record { paths = c.in-Ok.ensures.paths; other = c.in-Ok.ensures.other }) alone (c.in-Ok.ensures.alone alone.append) in
     record {
       alone = stand;
-      opens = more_in_tail (g.F.FileSystem.disk) (parts c.self.inside.files c.self.inside.pipes c.self.inside.traced.tables c.self.inside.is_stopped c.self.inside.wrote_unsynced c.self.inside.blocks.reads) (c.self.invariant c.if-self.false).batches c.append_batch.new.files c.append_batch.new.pipes c.args.sync c.in-Ok.written.id.seq c.prepare.new.batch.items
+      opens = more_in_tail (g.F.FileSystem.disk) (parts c.self.inside.files c.self.inside.pipes c.self.inside.traced.tables c.self.inside.is_stopped c.self.inside.wrote_unsynced c.self.inside.blocks.reads c.self.inside.traced c.self.inside.manager.purge_threshold) (c.self.invariant c.if-self.false).batches c.append_batch.new.files c.append_batch.new.pipes c.args.sync c.in-Ok.written.id.seq c.prepare.new.batch.items
           (met.is_named c.append_batch.new.files) stand c.in-Ok.ensures.other c.in-Ok.ensures.ok;
     })

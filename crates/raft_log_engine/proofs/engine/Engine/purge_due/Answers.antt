@@ -8,7 +8,7 @@ use Rattle.raft_log_engine.proofs.Clauses.{kept_by, parts}
 use Rattle.raft_log_engine.proofs.Cleaned.{told_places}
 use Rattle.raft_log_engine.proofs.Reopened.{kept_opens}
 use Rattle.raft_log_engine.proofs.Tails.{held_in_tail}
-use Rattle.raft_log_engine.proofs.engine.Engine.purge_expired_files.Goals as goal
+use Rattle.raft_log_engine.proofs.engine.Engine.purge_due.Goals as goal
 
 pub due_of-requires : goal.due_of-requires
 due_of-requires g c =
@@ -20,7 +20,7 @@ returns-in_default-clause-opens_still g c =
     let d = g.F.FileSystem.disk c.self.inside.files in
     let p = c.self.inside.pipes in
     rw (← c.self.view_is) (λ sound alone.
-    let kept = kept_by (g.F.FileSystem.disk) (parts c.self.inside.files c.self.inside.pipes c.self.inside.traced.tables c.self.inside.is_stopped c.self.inside.wrote_unsynced c.self.inside.blocks.reads) (c.self.invariant c.if-self.false).batches sound.synced in
+    let kept = kept_by (g.F.FileSystem.disk) (parts c.self.inside.files c.self.inside.pipes c.self.inside.traced.tables c.self.inside.is_stopped c.self.inside.wrote_unsynced c.self.inside.blocks.reads c.self.inside.traced c.self.inside.manager.purge_threshold) (c.self.invariant c.if-self.false).batches sound.synced in
     kept_opens d p c.self.inside.traced.tables kept.0 kept.1 (met.is_named c.self.inside.files) alone kept.2)
 
 pub returns-in_default-clause-opens_in_tail : goal.returns-in_default-clause-opens_in_tail
@@ -35,7 +35,7 @@ returns-in_default-due-clause-opens_still g c =
     let d = g.F.FileSystem.disk c.self.inside.files in
     let p = c.self.inside.pipes in
     rw (← c.self.view_is) (λ sound alone.
-    let kept = kept_by (g.F.FileSystem.disk) (parts c.self.inside.files c.self.inside.pipes c.self.inside.traced.tables c.self.inside.is_stopped c.self.inside.wrote_unsynced c.self.inside.blocks.reads) (c.self.invariant c.if-self.false).batches sound.synced in
+    let kept = kept_by (g.F.FileSystem.disk) (parts c.self.inside.files c.self.inside.pipes c.self.inside.traced.tables c.self.inside.is_stopped c.self.inside.wrote_unsynced c.self.inside.blocks.reads c.self.inside.traced c.self.inside.manager.purge_threshold) (c.self.invariant c.if-self.false).batches sound.synced in
     kept_opens d p c.self.inside.traced.tables kept.0 kept.1 (met.is_named c.self.inside.files) alone kept.2)
 
 pub returns-in_default-due-clause-opens_in_tail : goal.returns-in_default-due-clause-opens_in_tail
@@ -61,3 +61,9 @@ pub returns-in-Err-Marked-clause-barrier : goal.returns-in-Err-Marked-clause-bar
 returns-in-Err-Marked-clause-barrier g c =
     let same = c.clean_by.ensures.marked (c.in-Err-Marked.is ∙ ap (λ (fault : EngineFault). Err fault) c.in-Err-Marked.field-0-is) in
     rw same (barrier_same c.args.barrier c.args.self.now.pipes c.args.self.now.pipes refl)
+
+pub returns-in-Ok-clean_by-clause-expired : goal.returns-in-Ok-clean_by-clause-expired
+returns-in-Ok-clean_by-clause-expired g c = λ unmarked large. c.in-Ok-clean_by.ensures.expired c.free_of-free.result refl large
+
+pub returns-in-Err-clause-expired : goal.returns-in-Err-clause-expired
+returns-in-Err-clause-expired g c = λ unmarked large. tt
