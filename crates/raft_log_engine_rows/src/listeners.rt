@@ -44,7 +44,7 @@ fn file_of(word: &str) -> Option<FileSeq> {
     }
 }
 
-fn keeper(append: &str, rewrite: &str) -> Keeper {
+fn that_keeps(append: &str, rewrite: &str) -> Keeper {
     Keeper {
         append: file_of(append),
         rewrite: file_of(rewrite),
@@ -59,7 +59,7 @@ fn expired_with<F: FileSystem + Drop>(
     append: &str,
     rewrite: &str,
 ) -> Result<Told, EngineFault> {
-    let mut listeners = [keeper(append, "0"), keeper("0", rewrite)];
+    let mut listeners = [that_keeps(append, "0"), that_keeps("0", rewrite)];
     let groups = engine.purge_expired_files_with(&mut listeners)?;
     Ok(Told::Heard(groups, listeners[0].went, listeners[1].went))
 }
@@ -71,7 +71,7 @@ fn tidied_with<F: FileSystem + Drop>(
     first: &str,
     second: &str,
 ) -> Result<Told, EngineFault> {
-    let mut listeners = [keeper(first, "0"), keeper(second, "0")];
+    let mut listeners = [that_keeps(first, "0"), that_keeps(second, "0")];
     engine.clean_append_queue_with(&mut listeners)?;
     let none = Vec::new(alloc);
     Ok(Told::Heard(none, listeners[0].went, listeners[1].went))
