@@ -39,7 +39,18 @@ impl<F: FileSystem> Model for Engine<F> {
 
     ghost coded = { Prim.hlevel (codes, tables.the_row.coded, traces.the_row.coded) };
 
-    ghost view = { λ e. record { files = e.files; pipes = e.pipes; tables = e.traced.tables; is_stopped = e.is_stopped; wrote_unsynced = e.wrote_unsynced; block_reads = e.blocks.reads; traces = e.traced.traces; has_marked = e.traced.has_marked; is_parted = e.traced.is_parted; purge_threshold = e.manager.purge_threshold } };
+    ghost view = { λ e. record {
+      files = e.files;
+      pipes = e.pipes;
+      tables = e.traced.tables;
+      is_stopped = e.is_stopped;
+      wrote_unsynced = e.wrote_unsynced;
+      block_reads = e.blocks.reads;
+      traces = e.traced.traces;
+      has_marked = e.traced.has_marked;
+      is_parted = e.traced.is_parted;
+      purge_threshold = e.manager.purge_threshold;
+    } };
 
     ghost invariant = { λ e. IsEngine (F.disk e.files) e.pipes e.traced e.is_stopped e.wrote_unsynced e.blocks };
 }
