@@ -7,5 +7,5 @@ mod Deliveries
 mod Openings
 mod Lending
 mod Keeping
-mod Handing
+pub mod Handing
 mod Beginning
