@@ -125,7 +125,10 @@ fn print_run<R: Print + Threads + Sync>(
 
 fn main(rt: HostRuntime) -> io::Result<()> {
     println!(rt; "{}", rows_on_files(&rt, rt.alloc())?)?;
-    println!(rt; "on logs in memory {}", rows_on_plain_logs(&rt, rt.alloc())?)?;
+    println!(rt;
+        "on logs in memory {}",
+        rows_on_plain_logs(&rt, rt.alloc())?
+    )?;
     let mut input = String::new(rt.alloc());
     rt.stdin().read_to_string(&mut input)?;
     let mut name = None;

@@ -9,7 +9,6 @@ ghost use Rattle.raft_log_memtables.specs.Content.{Content};
 ghost use Rattle.raft_cluster_events.specs.declared.outcome.StopCause.TheVariants.{Memory};
 
 use crate::faults::{NodeFault, as_stop, error_of};
-use raft_node_logs::{NodeLog, Unopened, quiet_stop};
 use crate::outcomes::{outcome_of, outcomes_of};
 use crate::over_log::{files_back, open_over_log};
 use crate::readers::{machine_of, place_of};
@@ -19,6 +18,7 @@ use raft_cluster_events::{
 };
 use raft_machines::StateMachine;
 use raft_node::{Fed, Node, Opened, Outcome};
+use raft_node_logs::{NodeLog, Unopened, quiet_stop};
 use raft_store::{Store, StoreFault};
 use std::alloc::{AllocError, Global};
 use std::mem;

@@ -6,9 +6,9 @@ ghost use Rattle.raft_nodes_on_logs.specs.Kinds.{kind_of};
 ghost use Rattle.raft_node_logs.specs.Opening.{IsRefusedOpening};
 
 use crate::faults::as_stop;
-use raft_node_logs::{NodeLog, Unopened};
 use raft_machines::StateMachine;
 use raft_node::{Node, NotOpened, Opened};
+use raft_node_logs::{NodeLog, Unopened};
 use raft_store::Store;
 use std::alloc::Global;
 use std::thread::Threads;

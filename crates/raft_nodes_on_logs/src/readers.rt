@@ -5,9 +5,9 @@ ghost use Rattle.raft_node.specs.Reading.{machine_in, place_in};
 ghost use Rattle.raft_node.specs.Standing.{running_in};
 ghost use Rattle.raft_nodes_on_logs.specs.Acts.{unless_failed};
 
-use raft_node_logs::NodeLog;
 use raft_machines::StateMachine;
 use raft_node::Node;
+use raft_node_logs::NodeLog;
 use raft_store::Store;
 
 /// The group's machine, lent; none once the node has failed.
