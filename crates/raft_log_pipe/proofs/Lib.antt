@@ -2,6 +2,10 @@ pub mod ChangeLemmas
 pub mod NextLemmas
 pub mod PipeLemmas
 pub mod StoredLemmas
+pub mod ReservedLemmas
+pub mod KeptLemmas
+pub mod BehindLemmas
+pub mod ReuseLemmas
 pub mod ExitLemmas
 pub mod OpenLemmas
 pub mod BlockLemmas

@@ -1,6 +1,6 @@
 -- Files of a pipe that go: what is left of the disk, and of the pipe.
 use Rattle.std.proofs.Common.{◌≡◌, ◌≢◌, ◌⊎◌, inl, inr, ⊎_elim, ℕ, zero, suc, ◌+◌, ◌-◌, ◌^◌, ◌<◌, ◌≤◌, Bool, true, false, cond, nat_lt, List, [], ◌∷◌, ◌++◌, length, get_or, take, drop, Option, Some, None, refl, sym, ap, subst, ◌∙◌, arith, length-drop, length-take}
-use Rattle.std.specs.Prelude.{String, Vec, remove, ◌==◌, ◌&&◌}
+use Rattle.std.specs.Prelude.{String, Vec, map, remove, ◌==◌, ◌&&◌}
 use Rattle.std.specs.String.{string_bytes}
 use Rattle.std.specs.declared.alloc.Global.{Global}
 use Rattle.std.specs.List.{AllByRecursion, list_all}
@@ -23,7 +23,9 @@ use Rattle.raft_log_pipe.specs.declared.pipe.SinglePipe.{SinglePipe}
 use Rattle.raft_log_pipe.specs.Purging.{AreLastOf, AreGone, HoldsRest, IsGone, KeepsFrom, from_file}
 use Rattle.raft_log_pipe.specs.Stored.{IsEnded, IsStored}
 use Rattle.raft_log_pipe.specs.Pipe.{Numbered, numbered, id_of, first_of, AreConsecutive, AreOlder, Holds, HoldsIn, IsBlank, IsNamedSo, IsPipe}
+use Rattle.raft_log_pipe.specs.Reserved.{reserved_path}
 use Rattle.raft_log_pipe.proofs.NextLemmas.{some_is}
+use Rattle.raft_log_pipe.proofs.ReservedLemmas.{reserved_kept, reserved_no_log, says_none}
 use Rattle.raft_log_pipe.specs.Blocks.{files_of}
 use Rattle.raft_log_pipe.proofs.BlockLemmas.{in_last, long_span, older_below}
 use Rattle.raft_log_pipe.proofs.AloneLemmas.{found_in, never_some, with_older}
@@ -141,6 +143,16 @@ kept_name queue seq n fd d e keeps le (path, there, says) =
     (λ left. ((path, left, says), (keeps.files path fd left).1))
     (λ (m, lt, other). absurd (omega (arith, lt, le, ap (λ (x : FileId). x.seq) (some_is (id_of queue n) (id_of queue m) (sym says ∙ other)))))
     (keeps.names path fd there)
+
+kept_names : (queue : LogQueue) (seq last : ℕ) (d e : Disk) (fs : List File) → KeepsFrom queue seq d e → AreConsecutive fs last → seq + length fs ≤ last → AllByRecursion (λ f. IsNamedSo d (id_of queue f.seq) f.handle.0) fs
+    → AllByRecursion (λ f. IsNamedSo e (id_of queue f.seq) f.handle.0) fs
+kept_names queue seq last d e [] keeps numbers le all = tt
+kept_names queue seq last d e (f ∷ fs) keeps numbers le all =
+    ((kept_name queue seq f.seq f.handle.0 d e keeps (omega (arith, numbers.0, le)) all.0).0, kept_names queue seq last d e fs keeps numbers.1 (omega (arith, le)) all.1)
+
+-- so are files that are no log files
+kept_other : (queue : LogQueue) (seq : ℕ) (d e : Disk) (path : Text) (fd : ℕ) → KeepsFrom queue seq d e → log_file_of path ≡ None → IsIn (path, fd) d.names → IsIn (path, fd) e.names
+kept_other queue seq d e path fd keeps none there = ⊎_elim (λ left. left) (λ (m, lt, says). absurd (says_none path (id_of queue m) none says)) (keeps.names path fd there)
 
 kept_olders : (queue : LogQueue) (seq last : ℕ) (d e : Disk) (fs : List File) (bs : Numbered) → KeepsFrom queue seq d e → AreConsecutive fs last → seq + length fs ≤ last → AreOlder queue d fs bs → AreOlder queue e fs bs
 kept_olders queue seq last d e [] bs keeps numbers le os = os
@@ -260,6 +272,11 @@ rest_pipe p older f d e pipe is keeps =
       there = subst (λ n. p.active.handle.0 < n) (sym keeps.next) pipe.there;
       apart = subst (λ n. AllByRecursion (λ x. (x.handle.0 < n) × (x.handle.0 ≢ p.active.handle.0)) older.items) (sym keeps.next)
           (subst (λ (l : List File). AllByRecursion (λ x. (x.handle.0 < d.next) × (x.handle.0 ≢ p.active.handle.0)) l) is pipe.apart).1;
+      olders = kept_names p.queue (first_of p + 1) p.active.seq d e older.items keeps first.1.1 (omega (arith, first.0, first.1.0))
+          (subst (λ (l : List File). AllByRecursion (λ x. IsNamedSo d (id_of p.queue x.seq) x.handle.0) l) is pipe.olders).1;
+      reserved = reserved_kept p.queue (map string_bytes p.paths.items) d e p.reserved.items
+          (λ r so. kept_other p.queue (first_of p + 1) d e (reserved_path (map string_bytes p.paths.items) r.path_id r.seq) r.handle.0 keeps (reserved_no_log p.queue (map string_bytes p.paths.items) d r so) so.there)
+          keeps.directories pipe.reserved;
     }
 
 -- one file after the other

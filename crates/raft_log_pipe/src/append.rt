@@ -12,6 +12,7 @@ ghost use Rattle.raft_log_pipe.specs.Pipe.{IsPipe, IsPopulated, Holds, Leaves, N
 ghost use Rattle.raft_log_pipe.specs.Appending.{IsHandle, Appends, LeavesAppended, Stands};
 ghost use Rattle.raft_log_pipe.specs.Blocks.{KeepsFiles};
 ghost use Rattle.raft_log_pipe.specs.Caused.{IsAppendFault, IsCaused, IsGivenUpFault, IsSecondAppendFault, LacksPlace};
+ghost use Rattle.raft_log_pipe.specs.Purging.{AreLastOf};
 ghost use Rattle.raft_log_pipe.specs.Torn.{TearsAtEnd};
 ghost use Rattle.raft_log_pipe.specs.Taken.{IsAppendTaken, IsBarred, IsFull, IsRotationTaken, IsTakenBy, IsTooLarge, IsUnmade, IsUnnumbered};
 
@@ -32,6 +33,7 @@ impl SinglePipe {
         ensures pipe { IsPipe self.new (F.disk files.new) }
         ensures same { (self.new.active ≡ self.old.active) × (self.new.older ≡ self.old.older) × (self.new.queue ≡ self.old.queue) }
         ensures paths { self.new.paths ≡ self.old.paths }
+        ensures reserved { self.new.reserved ≡ self.old.reserved }
         ensures set { KeepsSettings self.old self.new }
         ensures others { KeepsOthers self.old.queue (F.disk files.old) (F.disk files.new) }
         ensures names { (F.disk files.new).names ≡ (F.disk files.old).names }
@@ -75,6 +77,7 @@ impl SinglePipe {
         ensures writer { IsWriter self.new.writer (F.disk files.new) }
         ensures queue { self.new.queue ≡ self.old.queue }
         ensures paths { self.new.paths ≡ self.old.paths }
+        ensures reserved { AreLastOf self.old.reserved.items self.new.reserved.items }
         ensures set { KeepsSettings self.old self.new }
         ensures others { KeepsOthers self.old.queue (F.disk files.old) (F.disk files.new) }
         ensures alone { OnOk result (IsAlone self.old (F.disk files.old) → IsAlone self.new (F.disk files.new)) }
@@ -114,6 +117,7 @@ impl SinglePipe {
         ensures writer { IsWriter self.new.writer (F.disk files.new) }
         ensures queue { self.new.queue ≡ self.old.queue }
         ensures paths { self.new.paths ≡ self.old.paths }
+        ensures reserved { AreLastOf self.old.reserved.items self.new.reserved.items }
         ensures set { KeepsSettings self.old self.new }
         ensures others { KeepsOthers self.old.queue (F.disk files.old) (F.disk files.new) }
         ensures alone { OnOk result (IsAlone self.old (F.disk files.old) → IsAlone self.new (F.disk files.new)) }
@@ -152,6 +156,7 @@ impl SinglePipe {
         ensures writer { IsWriter self.new.writer (F.disk files.new) }
         ensures queue { self.new.queue ≡ self.old.queue }
         ensures paths { self.new.paths ≡ self.old.paths }
+        ensures reserved { AreLastOf self.old.reserved.items self.new.reserved.items }
         ensures set { KeepsSettings self.old self.new }
         ensures others { KeepsOthers self.old.queue (F.disk files.old) (F.disk files.new) }
         ensures alone { OnOk result (IsAlone self.old (F.disk files.old) → IsAlone self.new (F.disk files.new)) }
@@ -187,6 +192,7 @@ impl SinglePipe {
         ensures writer { IsWriter self.new.writer (F.disk files.new) }
         ensures queue { self.new.queue ≡ self.old.queue }
         ensures paths { self.new.paths ≡ self.old.paths }
+        ensures reserved { AreLastOf self.old.reserved.items self.new.reserved.items }
         ensures set { KeepsSettings self.old self.new }
         ensures others { KeepsOthers self.old.queue (F.disk files.old) (F.disk files.new) }
         ensures nearly { IsAlone self.old (F.disk files.old) → IsNearlyAlone self.new (F.disk files.new) }

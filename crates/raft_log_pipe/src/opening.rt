@@ -81,6 +81,7 @@ impl SinglePipe {
             older: found,
             active,
             writer,
+            reserved: Vec::new(alloc),
         })
     }
 
@@ -122,6 +123,7 @@ impl SinglePipe {
             older: Vec::new(alloc),
             active: file,
             writer,
+            reserved: Vec::new(alloc),
         })
     }
 }

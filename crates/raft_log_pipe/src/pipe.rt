@@ -31,6 +31,8 @@ pub struct SinglePipe {
     /// The last file, which is written.
     pub(crate) active: File,
     pub(crate) writer: LogFileWriter,
+    /// Files that are kept for reuse under names of their own, of rising numbers.
+    pub(crate) reserved: Vec<File>,
 }
 
 impl SinglePipe {
@@ -82,6 +84,7 @@ impl SinglePipe {
         ensures pipe { IsPipe self.new (F.disk files.new) }
         ensures same { (self.new.active ≡ self.old.active) × (self.new.older ≡ self.old.older) × (self.new.queue ≡ self.old.queue) }
         ensures paths { self.new.paths ≡ self.old.paths }
+        ensures reserved { self.new.reserved ≡ self.old.reserved }
         ensures set { KeepsSettings self.old self.new }
         ensures others { KeepsOthers self.old.queue (F.disk files.old) (F.disk files.new) }
         ensures names { (F.disk files.new).names ≡ (F.disk files.old).names }

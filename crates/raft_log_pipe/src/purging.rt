@@ -25,6 +25,7 @@ impl SinglePipe {
         requires some { 0 < length self.old.older.items }
         ensures pipe { IsPipe self.new (F.disk files.new) }
         ensures same { (self.new.active ≡ self.old.active) × (self.new.queue ≡ self.old.queue) × (self.new.paths ≡ self.old.paths) }
+        ensures reserved { self.new.reserved ≡ self.old.reserved }
         ensures ok { OnOk result (length self.new.older.items + 1 ≡ length self.old.older.items) }
         ensures err { OnErr result ((length self.new.older.items + 1 ≡ length self.old.older.items) ⊎ (length self.new.older.items ≡ length self.old.older.items)) }
         ensures rest { AreLastOf self.old.older.items self.new.older.items }
@@ -55,6 +56,7 @@ impl SinglePipe {
         ensures pipe { IsPipe self.new (F.disk files.new) }
         ensures same { (self.new.active ≡ self.old.active) × (self.new.queue ≡ self.old.queue) }
         ensures paths { self.new.paths ≡ self.old.paths }
+        ensures reserved { self.new.reserved ≡ self.old.reserved }
         ensures set { KeepsSettings self.old self.new }
         ensures alone { OnOk result (IsAlone self.old (F.disk files.old) → IsAlone self.new (F.disk files.new)) }
         ensures stands { OnErr result (StandsFrom self.old (F.disk files.old) self.new (F.disk files.new)) }

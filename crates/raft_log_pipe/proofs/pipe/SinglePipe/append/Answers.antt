@@ -12,7 +12,7 @@ use Rattle.raft_log_files.specs.Error.{io_error}
 use Rattle.raft_log_records.specs.declared.file_id.FileBlockHandle.{FileBlockHandle}
 use Rattle.raft_log_pipe.specs.declared.pipe.SinglePipe.{SinglePipe}
 use Rattle.raft_log_pipe.specs.Taken.{IsBarred, IsFull, IsTooLarge, IsUnmade, IsUnnumbered}
-use Rattle.raft_log_pipe.proofs.TakenLemmas.{large_before, no_space_large, same_next, still_taken, taken_io, taken_more, told_error, unmade_before, unnumbered_before}
+use Rattle.raft_log_pipe.proofs.TakenLemmas.{large_before, no_space_large, same_main, still_taken, taken_io, taken_more, told_error, unmade_before, unnumbered_before}
 use Rattle.std.proofs.Common.{ℕ}
 use Rattle.raft_log_disk.specs.Cause.{Lacks, Rises}
 use Rattle.raft_log_files.specs.declared.error.Error.{Error}
@@ -128,7 +128,7 @@ returns-in-Err-NoSpace-clause-taken g c =
     let large = large_before p m _ items c.in_ok-make_room.ensures.room c.requires.items
     (no_space_large FileBlockHandle ⊥ (IsTooLarge m items) c.in-Err-NoSpace.field-0 c.in-Err-NoSpace.field-0-is (c.in-Err-NoSpace.ensures.taken (still_free free c.in_ok-make_room.ensures.later))) in
     let active : q.active ≡ p.active = c.in-Err-NoSpace.ensures.same.0 ∙ ap (λ (x : SinglePipe). x.active) large.1 in
-    let path = same_next p q active (c.in-Err-NoSpace.ensures.same.2 ∙ ap (λ (x : SinglePipe). x.queue) large.1) (c.in-Err-NoSpace.ensures.paths ∙ ap (λ (x : SinglePipe). x.paths) large.1) in
+    let path = same_main p q active (c.in-Err-NoSpace.ensures.same.2 ∙ ap (λ (x : SinglePipe). x.queue) large.1) (c.in-Err-NoSpace.ensures.paths ∙ ap (λ (x : SinglePipe). x.paths) large.1) in
     let directories : e.directories ≡ d.directories = c.in-Err-NoSpace.ensures.others.directories ∙ ap (λ (x : Disk). x.directories) large.2 in
     taken_more (IsUnnumbered q) (IsUnmade q e) (IsBarred q e) (needs × IsUnnumbered p) (needs × IsUnmade p d) ((IsFull p × IsBarred p d) ⊎ IsTooLarge p items) c.put_again.result
     (λ x. (inr large.0, unnumbered_before p q active x)) (λ x. (inr large.0, unmade_before p q d e path directories x)) (λ x. inr large.0)

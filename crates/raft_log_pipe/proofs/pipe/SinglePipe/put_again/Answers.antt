@@ -9,7 +9,7 @@ use Rattle.raft_log_disk.proofs.RefusalLemmas.{lacks_then, no_more_then, still_f
 use Rattle.raft_log_files.specs.Error.{io_error, second_append_error}
 use Rattle.raft_log_records.specs.declared.file_id.FileBlockHandle.{FileBlockHandle}
 use Rattle.raft_log_pipe.specs.Taken.{IsBarred, IsTooLarge, IsUnmade, IsUnnumbered}
-use Rattle.raft_log_pipe.proofs.TakenLemmas.{barred_before, fits_new, no_space_large, same_next, still_taken, taken_io, taken_second, told_error, unmade_before}
+use Rattle.raft_log_pipe.proofs.TakenLemmas.{barred_before, fits_new, no_space_large, same_main, same_next, still_taken, taken_io, taken_second, told_error, unmade_before}
 use Rattle.std.proofs.Common.{◌≡◌, ◌+◌, ◌∙◌, ℕ, inr, ap, arith}
 use Rattle.raft_log_disk.specs.Cause.{Lacks, Rises}
 use Rattle.raft_log_files.specs.declared.error.Error.{Error}
@@ -112,12 +112,13 @@ pub returns-in-Err-clause-taken : goal.returns-in-Err-clause-taken
 returns-in-Err-clause-taken g c =
     let d = g.F.FileSystem.disk c.args.files.now in
     let e = g.F.FileSystem.disk c.finish.new.files in
-    let path = same_next c.args.self.now c.finish.new.self c.in_ok-finish.ensures.same.0 c.in_ok-finish.ensures.same.2 c.in_ok-finish.ensures.paths in
+    let main = same_main c.args.self.now c.finish.new.self c.in_ok-finish.ensures.same.0 c.in_ok-finish.ensures.same.2 c.in_ok-finish.ensures.paths in
+    let path = same_next c.args.self.now c.finish.new.self c.in_ok-finish.ensures.same.0 c.in_ok-finish.ensures.same.2 c.in_ok-finish.ensures.paths c.in_ok-finish.ensures.reserved in
     λ free.
     told_error FileBlockHandle (IsUnnumbered c.args.self.now) (IsUnmade c.args.self.now d) (IsBarred c.args.self.now d) c.of_second_append.result (second_append_error c.in-Err.fault) c.of_second_append.ensures
     (taken_second (Unit {0}) FileBlockHandle (IsUnnumbered c.args.self.now) (IsUnmade c.args.self.now d) (IsBarred c.args.self.now d) c.in-Err.fault
     (still_taken (Unit {0}) (Unit {0}) (IsUnmade c.finish.new.self e) (IsBarred c.finish.new.self e) (IsUnmade c.args.self.now d) (IsBarred c.args.self.now d) c.in-Err.fault
-    (unmade_before c.args.self.now c.finish.new.self d e path c.in_ok-finish.ensures.others.directories)
+    (unmade_before c.args.self.now c.finish.new.self d e main c.in_ok-finish.ensures.others.directories)
     (barred_before c.args.self.now c.finish.new.self d e path c.in_ok-finish.ensures.others.directories c.in_ok-finish.ensures.next)
     (c.in-Err.ensures.taken (still_free free c.in_ok-finish.ensures.later))))
 
