@@ -1,6 +1,6 @@
 -- A reserved file that goes on: its header is written, and then it gets the next name.
 use Rattle.std.proofs.Common.{◌≡◌, ◌≢◌, ◌⊎◌, inl, inr, ⊎_elim, ℕ, ◌+◌, ◌<◌, ◌≤◌, Bool, true, false, List, [], ◌∷◌, ◌++◌, length, get_or, take, drop, map, Option, Some, None, refl, sym, ap, subst, ◌∙◌, arith, length-append}
-use Rattle.std.specs.Prelude.{Result, Ok, Err, String}
+use Rattle.std.specs.Prelude.{Result, Ok, Err, String, Vec}
 use Rattle.std.specs.String.{string_bytes}
 use Rattle.std.specs.List.{AllByRecursion}
 use Rattle.std.specs.declared.alloc.Global.{Global}
@@ -27,6 +27,7 @@ use Rattle.raft_log_pipe.specs.Begun.{Changes, IsBegun}
 use Rattle.raft_log_pipe.specs.Next.{GoesOn, IsBehind, KeepsAllLogs, KeepsLogs, TakesFirst, next_in}
 use Rattle.raft_log_pipe.specs.Others.{IsOther, KeepsOthers}
 use Rattle.raft_log_pipe.specs.Pipe.{id_of, HasPath, IsPipe, IsPlain}
+use Rattle.raft_log_pipe.specs.Purging.{AreLastOf}
 use Rattle.raft_log_pipe.specs.Reserved.{AreReserved, IsReserved, IsReservedPath, reserved_path}
 use Rattle.raft_log_pipe.specs.Stored.{IsStored}
 use Rattle.raft_log_pipe.specs.Taken.{IsBarred, path_behind}
@@ -290,3 +291,23 @@ module _ (p : SinglePipe) (d e g : Disk) (r : File) (rs : List File) (from to : 
   pub perhaps_others : (g ≡ e) ⊎ Renames e g from to → KeepsOthers p.queue d g
   perhaps_others (inl same) = subst (KeepsOthers p.queue d) (sym same) (header_others p.queue (directories_of_pipe p) d e r named all.0 change)
   perhaps_others (inr renames) = reused_others p d e g r rs from to named named_e named_g number all change from_is to_is free renames
+
+-- ---- one call after another
+
+-- the same files are reserved
+pub left_same : (a b : Vec File Global) → b ≡ a → AreLastOf a.items b.items
+left_same a b same = (0, ap (λ (v : Vec File Global). v.items) same)
+
+-- what the call of a pipe with the same last file takes
+pub takes_before : (p q : SinglePipe) (d e g : Disk) (left : List File) (f : File) → q.active ≡ p.active → q.queue ≡ p.queue → q.paths ≡ p.paths → q.reserved ≡ p.reserved → e.next ≡ d.next → TakesFirst q.reserved.items q e left f g
+    → TakesFirst p.reserved.items p d left f g
+takes_before p q d e g left f active queue paths reserved next takes = by_list p.reserved.items (subst (λ (v : Vec File Global). TakesFirst v.items q e left f g) reserved takes)
+  where
+    by_list : (rs : List File) → TakesFirst rs q e left f g → TakesFirst rs p d left f g
+    by_list [] (left_is, new) = (left_is, new ∙ next)
+    by_list (r ∷ rs) (left_is, handle, gone, there) = (
+      left_is,
+      handle,
+      (λ i. fd_of g.names (reserved_path (map string_bytes (sym paths i).items) r.path_id r.seq)) ∙ gone,
+      (λ i. fd_of g.names (path_in (map string_bytes (sym paths i).items) r.path_id (id_of (sym queue i) ((sym active i).seq + 1)))) ∙ there,
+    )

@@ -13,13 +13,18 @@ use Rattle.raft_log_records.specs.declared.file_id.FileBlockHandle.{FileBlockHan
 use Rattle.raft_log_pipe.specs.declared.pipe.SinglePipe.{SinglePipe}
 use Rattle.raft_log_pipe.specs.Taken.{IsBarred, IsFull, IsTooLarge, IsUnmade, IsUnnumbered}
 use Rattle.raft_log_pipe.proofs.TakenLemmas.{large_before, no_space_large, same_main, still_taken, taken_io, taken_more, told_error, unmade_before, unnumbered_before}
-use Rattle.std.proofs.Common.{ℕ}
+use Rattle.std.proofs.Common.{ℕ, ◌+◌, ◌<◌, ◌^◌, subst}
+use Rattle.std.specs.Prelude.{IfOk}
+use Rattle.raft_log_records.specs.Spelling.{record_len}
+use Rattle.raft_log_file.specs.Laws.{Batch}
 use Rattle.raft_log_disk.specs.Cause.{Lacks, Rises}
 use Rattle.raft_log_files.specs.declared.error.Error.{Error}
 use Rattle.raft_log_pipe.specs.Caused.{BeginsFiles, IsAppendFault, LacksNumber, LacksPlace}
 use Rattle.raft_log_pipe.proofs.CausedLemmas.{append_behind, begins_first, caused_for, rises_then, seq_on, told_cause, told_io}
 use Rattle.std.proofs.lemmas.Result.{on_err_weaker}
 use Rattle.raft_log_pipe.proofs.TornLemmas.{torn_then}
+use Rattle.raft_log_pipe.proofs.PurgeLemmas.{last_on}
+use Rattle.raft_log_pipe.proofs.ReuseLemmas.{left_same}
 use Rattle.raft_log_pipe.proofs.pipe.SinglePipe.append.Goals as goal
 
 pub returns-in_err-make_room-clause-err : goal.returns-in_err-make_room-clause-err
@@ -190,3 +195,15 @@ returns-in-Err-NoSpace-clause-torn g c = on_err_weaker c.put_again.result
     (λ alone. alone_on c.make_room.new.self c.put.new.self (g.F.FileSystem.disk c.make_room.new.files) (g.F.FileSystem.disk c.put.new.files) c.in-Err-NoSpace.ensures.same c.in-Err-NoSpace.ensures.paths c.in-Err-NoSpace.ensures.names (c.in_ok-make_room.ensures.alone alone))
     (still_before c.args.self.now c.make_room.new.self c.put.new.self (g.F.FileSystem.disk c.args.files.now) (g.F.FileSystem.disk c.make_room.new.files) (g.F.FileSystem.disk c.put.new.files) c.in_ok-make_room.ensures.ok
     (unless_no_space c.in-Err-NoSpace.field-0 _ c.in-Err-NoSpace.field-0-is c.in-Err-NoSpace.ensures.unwritten))) c.put_again.ensures.torn
+
+-- ---- reserved files
+
+pub returns-in-Err-NoSpace-clause-reserved : goal.returns-in-Err-NoSpace-clause-reserved
+returns-in-Err-NoSpace-clause-reserved g c =
+    last_on c.args.self.now.reserved.items c.make_room.new.self.reserved.items c.put_again.new.self.reserved.items c.in_ok-make_room.ensures.reserved
+    (last_on c.make_room.new.self.reserved.items c.put.new.self.reserved.items c.put_again.new.self.reserved.items (left_same c.make_room.new.self.reserved c.put.new.self.reserved c.in-Err-NoSpace.ensures.reserved)
+    c.put_again.ensures.reserved)
+
+pub returns-in-Err-NoSpace-clause-fits : goal.returns-in-Err-NoSpace-clause-fits
+returns-in-Err-NoSpace-clause-fits g c =
+    subst (λ (items : Batch). IfOk c.put_again.result (λ h. h.offset + record_len items < 2 ^ 64)) c.in-Err-NoSpace.ensures.batch.0 c.put_again.ensures.fits

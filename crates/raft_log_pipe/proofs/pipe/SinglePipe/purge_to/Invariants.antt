@@ -14,6 +14,7 @@ invariant-loop-gone g l = record {
   active : l.self.active ≡ l.initial.self.active;
   queue : l.self.queue ≡ l.initial.self.queue;
   paths : l.self.paths ≡ l.initial.self.paths;
+  reserved : l.self.reserved ≡ l.initial.self.reserved;
   set : KeepsSettings l.initial.self l.self;
   holds : HoldsRest l.initial.self (g.F.FileSystem.disk l.initial.files) l.self (g.F.FileSystem.disk l.files);
   keeps : KeepsFrom l.initial.self.queue (first_of l.self) (g.F.FileSystem.disk l.initial.files) (g.F.FileSystem.disk l.files);

@@ -19,6 +19,8 @@ use Rattle.raft_log_pipe.proofs.CausedLemmas.{begins_first, caused_for, number_b
 use Rattle.std.proofs.Common.{inl, ◌++◌, []}
 use Rattle.raft_log_pipe.specs.Torn.{TearsAtEnd}
 use Rattle.raft_log_pipe.proofs.TornLemmas.{held_torn, torn_next, torn_then}
+use Rattle.raft_log_pipe.proofs.PurgeLemmas.{last_on}
+use Rattle.raft_log_pipe.proofs.ReuseLemmas.{left_same}
 use Rattle.raft_log_pipe.proofs.pipe.SinglePipe.put_again.Goals as goal
 
 pub returns-in_err-finish-clause-err : goal.returns-in_err-finish-clause-err
@@ -236,3 +238,18 @@ returns-in-Err-NoSpace-clause-torn g c =
     (λ alone. alone_on c.go_on.new.self c.put.new.self (g.F.FileSystem.disk c.go_on.new.files) (g.F.FileSystem.disk c.put.new.files) c.in-Err-NoSpace.ensures.same c.in-Err-NoSpace.ensures.paths c.in-Err-NoSpace.ensures.names
     (c.in-Ok.ensures.alone (alone_on c.args.self.now c.finish.new.self (g.F.FileSystem.disk c.args.files.now) (g.F.FileSystem.disk c.finish.new.files) c.in_ok-finish.ensures.same c.in_ok-finish.ensures.paths c.in_ok-finish.ensures.names alone)))
     (λ s u h. inr (unless_no_space c.in-Err-NoSpace.field-0 _ c.in-Err-NoSpace.field-0-is c.in-Err-NoSpace.ensures.unwritten (s ++ u) [] (c.in-Ok.ensures.ok (s ++ u) (c.in_ok-finish.ensures.ok s u h)))) c.give_up.ensures.torn
+
+-- ---- reserved files
+
+pub returns-in_err-finish-clause-reserved : goal.returns-in_err-finish-clause-reserved
+returns-in_err-finish-clause-reserved g c = left_same c.args.self.now.reserved c.finish.new.self.reserved c.in_err-finish.ensures.reserved
+
+pub returns-in-Err-clause-later : goal.returns-in-Err-clause-later
+returns-in-Err-clause-later g c = no_more_then c.in_ok-finish.ensures.later c.in-Err.ensures.later
+
+pub returns-in-Err-NoSpace-clause-reserved : goal.returns-in-Err-NoSpace-clause-reserved
+returns-in-Err-NoSpace-clause-reserved g c =
+    let one = left_same c.args.self.now.reserved c.finish.new.self.reserved c.in_ok-finish.ensures.reserved in
+    let two = last_on c.args.self.now.reserved.items c.finish.new.self.reserved.items c.go_on.new.self.reserved.items one c.in-Ok.ensures.reserved in
+    let three = last_on c.args.self.now.reserved.items c.go_on.new.self.reserved.items c.put.new.self.reserved.items two (left_same c.go_on.new.self.reserved c.put.new.self.reserved c.in-Err-NoSpace.ensures.reserved) in
+    last_on c.args.self.now.reserved.items c.put.new.self.reserved.items c.give_up.new.self.reserved.items three c.give_up.ensures.reserved
