@@ -27,6 +27,7 @@ use Rattle.raft_log_file.specs.Writer.{IsWriter}
 use Rattle.raft_log_file.proofs.HeaderLemmas.{length-header}
 use Rattle.raft_log_file.proofs.UnsyncedLemmas.{unsynced_batches_are_a_front}
 use Rattle.raft_log_pipe.specs.declared.file.File.{File}
+use Rattle.raft_log_pipe.specs.declared.file.ReservedFile.{ReservedFile}
 use Rattle.raft_log_pipe.specs.declared.pipe.SinglePipe.{SinglePipe}
 use Rattle.raft_log_pipe.specs.Alone.{AreLast, IsAlone, IsMadeAt, IsMadeIn, IsNearlyAlone, StandsAt, directories_of_pipe, path_in}
 use Rattle.raft_log_pipe.specs.Begun.{Changes, IsBegun}
@@ -211,7 +212,7 @@ module _ (p : SinglePipe) (d e : Disk) (s : Numbered) (named : IsNamed d) (numbe
 -- ---- the pipe goes on
 
 -- with a file, and these that are reserved still
-abbrev pub with_next : SinglePipe → Vec File Global → File → LogFileWriter → Vec File Global → SinglePipe
+abbrev pub with_next : SinglePipe → Vec File Global → File → LogFileWriter → Vec ReservedFile Global → SinglePipe
 with_next p older f w reserved = record {
   alloc = p.alloc;
   queue = p.queue;
@@ -224,7 +225,7 @@ with_next p older f w reserved = record {
   reserved = reserved;
 }
 
-module _ (p : SinglePipe) (d e : Disk) (older reserved : Vec File Global) (f : File) (w : LogFileWriter) (named : IsNamed d) (number : IsFileSeq (p.active.seq + 1)) (grown : older.items ≡ files_of p) (b : IsBehind p d e f) where
+module _ (p : SinglePipe) (d e : Disk) (older : Vec File Global) (reserved : Vec ReservedFile Global) (f : File) (w : LogFileWriter) (named : IsNamed d) (number : IsFileSeq (p.active.seq + 1)) (grown : older.items ≡ files_of p) (b : IsBehind p d e f) where
   pub next_alone : IsAlone p d → IsAlone (with_next p older f w reserved) e
   next_alone alone = subst (λ (l : List File). AreLast e.names (directories_of_pipe p) p.queue (l ++ f ∷ [])) (sym grown) (behind_last p d e f number b alone)
 

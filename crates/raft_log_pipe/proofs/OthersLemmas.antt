@@ -15,6 +15,7 @@ use Rattle.raft_log_disk.proofs.DiskLemmas.{other_file}
 use Rattle.raft_log_disk.proofs.NamedLemmas.{in_other, named_first}
 use Rattle.raft_log_files.specs.FileName.{IsFileSeq, log_file_name}
 use Rattle.raft_log_pipe.specs.declared.file.File.{File}
+use Rattle.raft_log_pipe.specs.declared.file.ReservedFile.{ReservedFile}
 use Rattle.raft_log_pipe.specs.declared.pipe.SinglePipe.{SinglePipe}
 use Rattle.raft_log_pipe.specs.Alone.{AreLast, IsAlone, IsOnce, Names, StandsAt, directories_of_pipe, path_in}
 use Rattle.raft_log_pipe.specs.Begun.{Changes}
@@ -150,7 +151,7 @@ of_another queue other path n apart says = (
 )
 
 -- a reserved file of another queue
-reserved_other : (queue own : LogQueue) (directories : List Text) (d : Disk) (f : File) → (own ≡ queue → ⊥) → IsReserved own directories d f → IsOther queue (reserved_path directories f.path_id f.seq)
+reserved_other : (queue own : LogQueue) (directories : List Text) (d : Disk) (f : ReservedFile) → (own ≡ queue → ⊥) → IsReserved own directories d f → IsOther queue (reserved_path directories f.path_id f.seq)
 reserved_other queue own directories d f apart is = (
   (λ seq says. says_none (reserved_path directories f.path_id f.seq) (id_of queue seq) (reserved_no_log own directories d f is) says),
   λ kept. apart (is.own ∙ sym (reserved_own queue (reserved_path directories f.path_id f.seq) kept)),
@@ -225,7 +226,7 @@ module _ (queue : LogQueue) (p : SinglePipe) (d e : Disk) (apart : p.queue ≡ q
         apart = apart_beside queue p.queue d e apart keeps p.active.handle.0 p.older.items pipe.apart;
         olders = names_still p.queue d e (named_beside queue p.queue d e apart keeps) p.older.items pipe.olders;
         reserved = reserved_kept p.queue (directories_of_pipe p) d e p.reserved.items
-            (λ f is. (keeps.stay (reserved_path (directories_of_pipe p) f.path_id f.seq) f.handle.0 (reserved_other queue p.queue (directories_of_pipe p) d f apart is) is.there).0) keeps.directories pipe.reserved;
+            (λ f is. (keeps.stay (reserved_path (directories_of_pipe p) f.path_id f.seq) is.fd (reserved_other queue p.queue (directories_of_pipe p) d f apart is) is.there).0) keeps.directories pipe.reserved;
       }
 
   pub pipe_holds_beside : (s u : Numbered) → Holds p d s u → Holds p e s u

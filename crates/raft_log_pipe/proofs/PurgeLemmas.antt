@@ -275,7 +275,7 @@ rest_pipe p older f d e pipe is keeps =
       olders = kept_names p.queue (first_of p + 1) p.active.seq d e older.items keeps first.1.1 (omega (arith, first.0, first.1.0))
           (subst (λ (l : List File). AllByRecursion (λ x. IsNamedSo d (id_of p.queue x.seq) x.handle.0) l) is pipe.olders).1;
       reserved = reserved_kept p.queue (map string_bytes p.paths.items) d e p.reserved.items
-          (λ r so. kept_other p.queue (first_of p + 1) d e (reserved_path (map string_bytes p.paths.items) r.path_id r.seq) r.handle.0 keeps (reserved_no_log p.queue (map string_bytes p.paths.items) d r so) so.there)
+          (λ r so. kept_other p.queue (first_of p + 1) d e (reserved_path (map string_bytes p.paths.items) r.path_id r.seq) so.fd keeps (reserved_no_log p.queue (map string_bytes p.paths.items) d r so) so.there)
           keeps.directories pipe.reserved;
     }
 
@@ -406,8 +406,8 @@ drop_more {A} (suc n) m (x ∷ l) =
     drop_more n m l ∙ ap (λ (k : ℕ). drop k (x ∷ l)) same
 
 -- the last ones of the last ones
-pub last_on : (old mid new : List File) → AreLastOf old mid → AreLastOf mid new → AreLastOf old new
-last_on old mid new one two = (one.0 + two.0, two.1 ∙ ap (λ (l : List File). drop two.0 l) one.1 ∙ drop_more one.0 two.0 old)
+pub last_on : {X : Type 0} (old mid new : List X) → AreLastOf old mid → AreLastOf mid new → AreLastOf old new
+last_on {X = X} old mid new one two = (one.0 + two.0, two.1 ∙ ap (λ (l : List X). drop two.0 l) one.1 ∙ drop_more one.0 two.0 old)
 
 -- a file with one of the last numbers is among them
 pub in_last_files : (fs : List File) (last n : ℕ) (f : File) → AreConsecutive fs last → IsIn f fs → last ≤ f.seq + length (drop n fs) → IsIn f (drop n fs)

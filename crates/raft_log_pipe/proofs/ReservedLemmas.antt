@@ -16,7 +16,7 @@ use Rattle.raft_log_disk.specs.Disk.{Disk, HasDirectory, IsIn}
 use Rattle.raft_log_disk.specs.Name.{file_id_of, is_digit, log_file_of, suffix_of}
 use Rattle.raft_log_files.specs.FileName.{IsFileSeq, log_file_name, reserved_name, suffixed}
 use Rattle.raft_log_files.proofs.DigitLemmas.{name_split}
-use Rattle.raft_log_pipe.specs.declared.file.File.{File}
+use Rattle.raft_log_pipe.specs.declared.file.ReservedFile.{ReservedFile}
 use Rattle.raft_log_pipe.specs.Reserved.{AreReserved, IsReserved, IsReservedPath, reserved_path}
 
 -- ---- tests
@@ -75,10 +75,10 @@ reserved_in : (queue : LogQueue) (directory path : Text) (n : ℕ) → queue ≡
 reserved_in Append directory path n own below is = (directory, n, below, is)
 reserved_in Rewrite directory path n own below is = absurd cc
 
-pub reserved_says : (queue : LogQueue) (directories : List Text) (d : Disk) (f : File) → IsReserved queue directories d f → IsReservedPath queue (reserved_path directories f.path_id f.seq)
+pub reserved_says : (queue : LogQueue) (directories : List Text) (d : Disk) (f : ReservedFile) → IsReserved queue directories d f → IsReservedPath queue (reserved_path directories f.path_id f.seq)
 reserved_says queue directories d f is = reserved_in queue (get_or directories f.path_id []) (reserved_path directories f.path_id f.seq) f.seq is.own is.number refl
 
-pub reserved_no_log : (queue : LogQueue) (directories : List Text) (d : Disk) (f : File) → IsReserved queue directories d f → log_file_of (reserved_path directories f.path_id f.seq) ≡ None
+pub reserved_no_log : (queue : LogQueue) (directories : List Text) (d : Disk) (f : ReservedFile) → IsReserved queue directories d f → log_file_of (reserved_path directories f.path_id f.seq) ≡ None
 reserved_no_log queue directories d f is = not_log (get_or directories f.path_id []) f.seq is.number
 
 pub says_none : (path : Text) (id : FileId) → log_file_of path ≡ None → log_file_of path ≡ Some id → ⊥
@@ -114,21 +114,22 @@ held_path (d ∷ ds) directory id below (inr there) = inr (held_path ds director
 
 -- ---- files that stay reserved
 
-pub one_kept : (queue : LogQueue) (directories : List Text) (d e : Disk) (f : File) → IsIn (reserved_path directories f.path_id f.seq, f.handle.0) e.names → e.directories ≡ d.directories → IsReserved queue directories d f → IsReserved queue directories e f
-one_kept queue directories d e f there same is = record {
+pub one_kept : (queue : LogQueue) (directories : List Text) (d e : Disk) (f : ReservedFile) (is : IsReserved queue directories d f) → IsIn (reserved_path directories f.path_id f.seq, is.fd) e.names → e.directories ≡ d.directories → IsReserved queue directories e f
+one_kept queue directories d e f is there same = record {
   own = is.own;
   number = is.number;
   within = is.within;
+  fd = is.fd;
   there = there;
   directory = subst (IsIn (get_or directories f.path_id [])) (sym same) is.directory;
 }
 
-pub reserved_kept : (queue : LogQueue) (directories : List Text) (d e : Disk) (fs : List File) → ((f : File) → IsReserved queue directories d f → IsIn (reserved_path directories f.path_id f.seq, f.handle.0) e.names)
+pub reserved_kept : (queue : LogQueue) (directories : List Text) (d e : Disk) (fs : List ReservedFile) → ((f : ReservedFile) (is : IsReserved queue directories d f) → IsIn (reserved_path directories f.path_id f.seq, is.fd) e.names)
     → e.directories ≡ d.directories → AreReserved queue directories d fs → AreReserved queue directories e fs
 reserved_kept queue directories d e [] there same all = tt
-reserved_kept queue directories d e (f ∷ fs) there same all = (one_kept queue directories d e f (there f all.0) same all.0, all.1, reserved_kept queue directories d e fs there same all.2)
+reserved_kept queue directories d e (f ∷ fs) there same all = (one_kept queue directories d e f all.0 (there f all.0) same, all.1, reserved_kept queue directories d e fs there same all.2)
 
 -- names are as they were
-pub reserved_on : (queue : LogQueue) (directories : List Text) (d e : Disk) (fs : List File) → e.names ≡ d.names → e.directories ≡ d.directories → AreReserved queue directories d fs → AreReserved queue directories e fs
+pub reserved_on : (queue : LogQueue) (directories : List Text) (d e : Disk) (fs : List ReservedFile) → e.names ≡ d.names → e.directories ≡ d.directories → AreReserved queue directories d fs → AreReserved queue directories e fs
 reserved_on queue directories d e fs names same all =
-    reserved_kept queue directories d e fs (λ f is. subst (IsIn (reserved_path directories f.path_id f.seq, f.handle.0)) (sym names) is.there) same all
+    reserved_kept queue directories d e fs (λ f is. subst (IsIn (reserved_path directories f.path_id f.seq, is.fd)) (sym names) is.there) same all

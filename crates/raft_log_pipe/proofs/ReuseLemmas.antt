@@ -21,6 +21,7 @@ use Rattle.raft_log_file.specs.Laws.{file_text}
 use Rattle.raft_log_file.specs.Writer.{IsWriter}
 use Rattle.raft_log_file.proofs.HeaderLemmas.{length-header}
 use Rattle.raft_log_pipe.specs.declared.file.File.{File}
+use Rattle.raft_log_pipe.specs.declared.file.ReservedFile.{ReservedFile}
 use Rattle.raft_log_pipe.specs.declared.pipe.SinglePipe.{SinglePipe}
 use Rattle.raft_log_pipe.specs.Alone.{directories_of_pipe, path_in}
 use Rattle.raft_log_pipe.specs.Begun.{Changes, IsBegun}
@@ -52,62 +53,74 @@ next_free p d place dir path pipe number within at is =
 
 -- ---- the first reserved file
 
-pub split_first : (fs : List File) (f : File) → 0 < length fs → f ≡ get_or fs 0 f → fs ≡ f ∷ drop 1 fs
+pub split_first : (fs : List ReservedFile) (f : ReservedFile) → 0 < length fs → f ≡ get_or fs 0 f → fs ≡ f ∷ drop 1 fs
 split_first [] f some at = absurd (omega (arith, some))
-split_first (g ∷ fs) f some at = ap (λ (x : File). x ∷ fs) (sym at)
+split_first (g ∷ fs) f some at = ap (λ (x : ReservedFile). x ∷ fs) (sym at)
 
-pub first_reserved : (p : SinglePipe) (d : Disk) (r : File) → IsPipe p d → 0 < length p.reserved.items → r ≡ get_or p.reserved.items 0 r → AreReserved p.queue (directories_of_pipe p) d (r ∷ drop 1 p.reserved.items)
+pub first_reserved : (p : SinglePipe) (d : Disk) (r : ReservedFile) → IsPipe p d → 0 < length p.reserved.items → r ≡ get_or p.reserved.items 0 r → AreReserved p.queue (directories_of_pipe p) d (r ∷ drop 1 p.reserved.items)
 first_reserved p d r pipe some at = subst (AreReserved p.queue (directories_of_pipe p) d) (split_first p.reserved.items r some at) pipe.reserved
 
-pub first_within : (p : SinglePipe) (d : Disk) (r : File) → IsReserved p.queue (directories_of_pipe p) d r → r.path_id < length p.paths.items
+pub first_within : (p : SinglePipe) (d : Disk) (r : ReservedFile) → IsReserved p.queue (directories_of_pipe p) d r → r.path_id < length p.paths.items
 first_within p d r is = omega (arith, is.within, length-map p.paths.items string_bytes)
 
 -- ---- its header was perhaps written
 
 -- a reserved file is there
-pub reserved_there : (queue : LogQueue) (directories : List Text) (d : Disk) (r : File) → IsReserved queue directories d r → IsNoFile d r.handle.0 → ⊥
-reserved_there queue directories d r is none = none (named_there d.names (reserved_path directories r.path_id r.seq) r.handle.0 is.there)
+pub reserved_there : (queue : LogQueue) (directories : List Text) (d : Disk) (r : ReservedFile) (is : IsReserved queue directories d r) → IsNoFile d is.fd → ⊥
+reserved_there queue directories d r is none = none (named_there d.names (reserved_path directories r.path_id r.seq) is.fd is.there)
 
-module _ (queue : LogQueue) (directories : List Text) (d e : Disk) (r : File) (named : IsNamed d) (is : IsReserved queue directories d r) (change : Changes d e r.handle.0) where
+module _ (queue : LogQueue) (directories : List Text) (d e : Disk) (r : ReservedFile) (named : IsNamed d) (is : IsReserved queue directories d r) (change : Changes d e is.fd) where
   -- of one path
-  its_path : (path : Text) (n : ℕ) → IsIn (path, n) d.names → n ≡ r.handle.0 → path ≡ reserved_path directories r.path_id r.seq
-  its_path path n there same = one_path d.names d.next path (reserved_path directories r.path_id r.seq) r.handle.0 named (subst (λ (m : ℕ). IsIn (path, m) d.names) same there) is.there
+  its_path : (path : Text) (n : ℕ) → IsIn (path, n) d.names → n ≡ is.fd → path ≡ reserved_path directories r.path_id r.seq
+  its_path path n there same = one_path d.names d.next path (reserved_path directories r.path_id r.seq) is.fd named (subst (λ (m : ℕ). IsIn (path, m) d.names) same there) is.there
 
-  log_apart : (path : Text) (id : FileId) (n : ℕ) → log_file_of path ≡ Some id → IsIn (path, n) d.names → n ≢ r.handle.0
+  log_apart : (path : Text) (id : FileId) (n : ℕ) → log_file_of path ≡ Some id → IsIn (path, n) d.names → n ≢ is.fd
   log_apart path id n says there same = says_none path id (ap log_file_of (its_path path n there same) ∙ reserved_no_log queue directories d r is) says
 
-  other_apart : (path : Text) (n : ℕ) → IsOther queue path → IsIn (path, n) d.names → n ≢ r.handle.0
+  other_apart : (path : Text) (n : ℕ) → IsOther queue path → IsIn (path, n) d.names → n ≢ is.fd
   other_apart path n other there same = other.1 (subst (IsReservedPath queue) (sym (its_path path n there same)) (reserved_says queue directories d r is))
 
   pub header_logs : KeepsAllLogs d e
   header_logs = record {
     names = λ path id says none. ap (λ (y : Disk). fd_of y.names path) change;
-    files = λ path id fd says found. file_beside d e r.handle.0 fd change (log_apart path id fd says (found_in d.names path fd found));
+    files = λ path id fd says found. file_beside d e is.fd fd change (log_apart path id fd says (found_in d.names path fd found));
     next = omega (arith, ap (λ (y : Disk). y.next) change);
   }
 
   pub header_others : KeepsOthers queue d e
   header_others = record {
-    stay = λ path fd other there. (subst (λ (y : Disk). IsIn (path, fd) y.names) (sym change) there, file_beside d e r.handle.0 fd change (other_apart path fd other there));
+    stay = λ path fd other there. (subst (λ (y : Disk). IsIn (path, fd) y.names) (sym change) there, file_beside d e is.fd fd change (other_apart path fd other there));
     none = λ path fd other there. subst (λ (y : Disk). IsIn (path, fd) y.names) change there;
     next = omega (arith, ap (λ (y : Disk). y.next) change);
     directories = ap (λ (y : Disk). y.directories) change;
   }
 
+same_some : (a b : ℕ) → (let x : Option ℕ = Some a in x ≡ Some b) → a ≡ b
+same_some a b is = cc
+
+-- it is found by its path
+pub opened_is : (queue : LogQueue) (directories : List Text) (d : Disk) (r : ReservedFile) (path : Text) (n : ℕ) → IsNamed d → (is : IsReserved queue directories d r) → path ≡ reserved_path directories r.path_id r.seq → fd_of d.names path ≡ Some n → n ≡ is.fd
+opened_is queue directories d r path n named is path_is found =
+    same_some n is.fd (sym found ∙ ap (fd_of d.names) path_is ∙ found_there d.names d.next (reserved_path directories r.path_id r.seq) is.fd named is.there)
+
+pub is_there : (queue : LogQueue) (directories : List Text) (d : Disk) (r : ReservedFile) (path : Text) → IsNamed d → (is : IsReserved queue directories d r) → path ≡ reserved_path directories r.path_id r.seq → fd_of d.names path ≡ None → ⊥
+is_there queue directories d r path named is path_is none =
+    none_some (fd_of d.names path) is.fd none (ap (fd_of d.names) path_is ∙ found_there d.names d.next (reserved_path directories r.path_id r.seq) is.fd named is.there)
+
 -- it can be renamed
-pub can_move : (p : SinglePipe) (d e : Disk) (r : File) (from to : Text) → IsNamed d → IsReserved p.queue (directories_of_pipe p) d r → Changes d e r.handle.0 → IsFileSeq (p.active.seq + 1) → from ≡ reserved_path (directories_of_pipe p) r.path_id r.seq
+pub can_move : (p : SinglePipe) (d e : Disk) (r : ReservedFile) (from to : Text) → IsNamed d → (is : IsReserved p.queue (directories_of_pipe p) d r) → Changes d e is.fd → IsFileSeq (p.active.seq + 1) → from ≡ reserved_path (directories_of_pipe p) r.path_id r.seq
     → to ≡ next_in p r.path_id → IsNoMove e from to → ⊥
 can_move p d e r from to named is change number from_is to_is (inl none) =
     let own : Text = reserved_path (directories_of_pipe p) r.path_id r.seq in
-    none_some (fd_of d.names own) r.handle.0 (ap (fd_of d.names) (sym from_is) ∙ ap (λ (y : Disk). fd_of y.names from) (sym change) ∙ none) (found_there d.names d.next own r.handle.0 named is.there)
+    none_some (fd_of d.names own) is.fd (ap (fd_of d.names) (sym from_is) ∙ ap (λ (y : Disk). fd_of y.names from) (sym change) ∙ none) (found_there d.names d.next own is.fd named is.there)
 can_move p d e r from to named is change number from_is to_is (inr none) =
     none (subst (λ (t : Text). HasDirectory e.directories t) (sym to_is) (subst (λ (l : List Text). HasDirectory l (next_in p r.path_id)) (sym (ap (λ (y : Disk). y.directories) change))
     (held_path d.directories (get_or (directories_of_pipe p) r.path_id []) (id_of p.queue (p.active.seq + 1)) number is.directory)))
 
 -- a directory with the next path bars the way
-pub barred_by : (p : SinglePipe) (d e : Disk) (r : File) (rs : List File) (to : Text) → p.reserved.items ≡ r ∷ rs → e.directories ≡ d.directories → to ≡ next_in p r.path_id → IsIn to e.directories → IsBarred p d
+pub barred_by : (p : SinglePipe) (d e : Disk) (r : ReservedFile) (rs : List ReservedFile) (to : Text) → p.reserved.items ≡ r ∷ rs → e.directories ≡ d.directories → to ≡ next_in p r.path_id → IsIn to e.directories → IsBarred p d
 barred_by p d e r rs to is same to_is there =
-    inr (subst (λ (l : List File). IsIn (path_behind l p.paths.items (id_of p.queue (p.active.seq + 1))) d.directories) (sym is) (subst (λ (t : Text). IsIn t d.directories) to_is (subst (IsIn to) same there)))
+    inr (subst (λ (l : List ReservedFile). IsIn (path_behind l p.paths.items (id_of p.queue (p.active.seq + 1))) d.directories) (sym is) (subst (λ (t : Text). IsIn t d.directories) to_is (subst (IsIn to) same there)))
 
 -- ---- then it got the next name
 
@@ -136,8 +149,8 @@ renamed_stored id format f rest plain is =
       behind = inl (record { earlier = tt; later = tt });
     }
 
-module _ (p : SinglePipe) (d e g : Disk) (r : File) (rs : List File) (from to : Text) (named : IsNamed d) (named_e : IsNamed e) (named_g : IsNamed g) (number : IsFileSeq (p.active.seq + 1))
-    (all : AreReserved p.queue (directories_of_pipe p) d (r ∷ rs)) (change : Changes d e r.handle.0) (from_is : from ≡ reserved_path (directories_of_pipe p) r.path_id r.seq) (to_is : to ≡ next_in p r.path_id)
+module _ (p : SinglePipe) (d e g : Disk) (r : ReservedFile) (rs : List ReservedFile) (from to : Text) (named : IsNamed d) (named_e : IsNamed e) (named_g : IsNamed g) (number : IsFileSeq (p.active.seq + 1))
+    (all : AreReserved p.queue (directories_of_pipe p) d (r ∷ rs)) (change : Changes d e all.0.fd) (from_is : from ≡ reserved_path (directories_of_pipe p) r.path_id r.seq) (to_is : to ≡ next_in p r.path_id)
     (free : fd_of d.names to ≡ None) (renames : Renames e g from to) where
   abbrev directories : List Text
   directories = directories_of_pipe p
@@ -145,14 +158,11 @@ module _ (p : SinglePipe) (d e g : Disk) (r : File) (rs : List File) (from to : 
   names_are : e.names ≡ d.names
   names_are = ap (λ (y : Disk). y.names) change
 
-  own : fd_of d.names from ≡ Some r.handle.0
-  own = ap (fd_of d.names) from_is ∙ found_there d.names d.next (reserved_path directories r.path_id r.seq) r.handle.0 named all.0.there
+  own : fd_of d.names from ≡ Some all.0.fd
+  own = ap (fd_of d.names) from_is ∙ found_there d.names d.next (reserved_path directories r.path_id r.seq) all.0.fd named all.0.there
 
-  same_some : (a b : ℕ) → (let x : Option ℕ = Some a in x ≡ Some b) → a ≡ b
-  same_some a b is = cc
-
-  fd_is : renames.0 ≡ r.handle.0
-  fd_is = same_some renames.0 r.handle.0 (sym renames.1 ∙ ap (λ (l : List (Text × ℕ)). fd_of l from) names_are ∙ own)
+  fd_is : renames.0 ≡ all.0.fd
+  fd_is = same_some renames.0 all.0.fd (sym renames.1 ∙ ap (λ (l : List (Text × ℕ)). fd_of l from) names_are ∙ own)
 
   names_then : g.names ≡ moved d.names from to
   names_then = ap (λ (y : Disk). y.names) renames.2 ∙ ap (λ (l : List (Text × ℕ)). moved l from to) names_are
@@ -170,16 +180,16 @@ module _ (p : SinglePipe) (d e g : Disk) (r : File) (rs : List File) (from to : 
   not_from : (path : Text) (id : FileId) → log_file_of path ≡ Some id → path ≡ from → ⊥
   not_from path id says same = says_none path id (ap log_file_of same ∙ from_none) says
 
-  file_then : (n : ℕ) → n ≢ r.handle.0 → g.file n ≡ e.file n
+  file_then : (n : ℕ) → n ≢ all.0.fd → g.file n ≡ e.file n
   file_then n apart = ap (λ (y : Disk). y.file n) renames.2 ∙ other_file n renames.0 (renamed (e.file renames.0)) (e.file n) (λ same. apart (same ∙ fd_is))
 
-  there_then : fd_of g.names to ≡ Some r.handle.0
-  there_then = ap (λ (l : List (Text × ℕ)). fd_of l to) names_then ∙ moved_there d.names from to r.handle.0 free own
+  there_then : fd_of g.names to ≡ Some all.0.fd
+  there_then = ap (λ (l : List (Text × ℕ)). fd_of l to) names_then ∙ moved_there d.names from to all.0.fd free own
 
   next_then : g.next ≡ d.next
   next_then = ap (λ (y : Disk). y.next) renames.2 ∙ ap (λ (y : Disk). y.next) change
 
-  pub reused_behind : (f : File) → f.seq ≡ p.active.seq + 1 → f.path_id ≡ r.path_id → f.handle.0 ≡ r.handle.0 → IsBehind p d g f
+  pub reused_behind : (f : File) → f.seq ≡ p.active.seq + 1 → f.path_id ≡ r.path_id → f.handle.0 ≡ all.0.fd → IsBehind p d g f
   reused_behind f seq place handle =
       let here : to ≡ next_in p f.path_id = to_is ∙ ap (next_in p) (sym place) in
       record {
@@ -187,12 +197,12 @@ module _ (p : SinglePipe) (d e g : Disk) (r : File) (rs : List File) (from to : 
         within = omega (arith, place, all.0.within, length-map p.paths.items string_bytes);
         free = ap (fd_of d.names) (sym here) ∙ free;
         there = ap (fd_of g.names) (sym here) ∙ there_then ∙ ap (λ (n : ℕ). Some n) (sym handle);
-        known = omega (arith, handle, next_then, below_next_name d.names d.next (reserved_path directories r.path_id r.seq) r.handle.0 named all.0.there);
+        known = omega (arith, handle, next_then, below_next_name d.names d.next (reserved_path directories r.path_id r.seq) all.0.fd named all.0.there);
         logs = record {
           names = λ path id says apart. beside path (not_from path id says) (λ same. apart (same ∙ here));
           files = λ path id fd says found.
               let not = log_apart p.queue directories d e r named all.0 change path id fd says (found_in d.names path fd found) in
-              file_then fd not ∙ file_beside d e r.handle.0 fd change not;
+              file_then fd not ∙ file_beside d e all.0.fd fd change not;
           next = omega (arith, next_then);
         };
       }
@@ -202,7 +212,7 @@ module _ (p : SinglePipe) (d e g : Disk) (r : File) (rs : List File) (from to : 
     stay = λ path fd other there.
         let not = other_apart p.queue directories d e r named all.0 change path fd other there in (
           found_in g.names path fd (other_then path other ∙ found_there d.names d.next path fd named there),
-          file_then fd not ∙ file_beside d e r.handle.0 fd change not,
+          file_then fd not ∙ file_beside d e all.0.fd fd change not,
         );
     none = λ path fd other there. found_in d.names path fd (sym (other_then path other) ∙ found_there g.names g.next path fd named_g there);
     next = omega (arith, next_then);
@@ -214,38 +224,38 @@ module _ (p : SinglePipe) (d e g : Disk) (r : File) (rs : List File) (from to : 
           beside path (λ same. other.1 (subst (IsReservedPath p.queue) (sym (same ∙ from_is)) (reserved_says p.queue directories d r all.0))) (λ same. other.0 (p.active.seq + 1) (ap log_file_of same ∙ to_says))
 
   -- the others stay reserved
-  one_left : (s : File) → r.seq < s.seq → IsReserved p.queue directories d s → IsReserved p.queue directories g s
+  one_left : (s : ReservedFile) → r.seq < s.seq → IsReserved p.queue directories d s → IsReserved p.queue directories g s
   one_left s more is =
       let path : Text = reserved_path directories s.path_id s.seq in
-      one_kept p.queue directories d g s
-      (found_in g.names path s.handle.0 (beside path
+      one_kept p.queue directories d g s is
+      (found_in g.names path is.fd (beside path
       (λ same. absurd (omega (arith, more, one_number (get_or directories s.path_id []) (get_or directories r.path_id []) s.seq r.seq is.number all.0.number (same ∙ from_is))))
       (λ same. says_none path (id_of p.queue (p.active.seq + 1)) (reserved_no_log p.queue directories d s is) (ap log_file_of same ∙ to_says))
-      ∙ found_there d.names d.next path s.handle.0 named is.there))
-      (ap (λ (y : Disk). y.directories) renames.2 ∙ ap (λ (y : Disk). y.directories) change) is
+      ∙ found_there d.names d.next path is.fd named is.there))
+      (ap (λ (y : Disk). y.directories) renames.2 ∙ ap (λ (y : Disk). y.directories) change)
 
-  all_left : (ss : List File) → AllByRecursion (λ s. r.seq < s.seq) ss → AreReserved p.queue directories d ss → AreReserved p.queue directories g ss
+  all_left : (ss : List ReservedFile) → AllByRecursion (λ s. r.seq < s.seq) ss → AreReserved p.queue directories d ss → AreReserved p.queue directories g ss
   all_left [] more are = tt
   all_left (s ∷ ss) more are = (one_left s more.0 are.0, are.1, all_left ss more.1 are.2)
 
   pub reused_left : AreReserved p.queue (directories_of_pipe p) g rs
   reused_left = all_left rs all.1 all.2
 
-  pub reused_takes : (f : File) → f.handle ≡ r.handle → TakesFirst (r ∷ rs) p d rs f g
+  pub reused_takes : (f : File) → f.handle.0 ≡ all.0.fd → TakesFirst (r ∷ rs) p d rs f g
   reused_takes f handle = (
     refl,
-    handle,
+    ap (fd_of d.names) (sym from_is) ∙ own ∙ ap (λ (n : ℕ). Some n) (sym handle),
     ap (fd_of g.names) (sym from_is) ∙ ap (λ (l : List (Text × ℕ)). fd_of l from) names_then
         ∙ moved_gone d.names from to d.next named (not_same to from (λ same. says_none from (id_of p.queue (p.active.seq + 1)) from_none (ap log_file_of (sym same) ∙ to_says))),
-    ap (fd_of g.names) (sym to_is) ∙ there_then,
+    ap (fd_of g.names) (sym to_is) ∙ there_then ∙ ap (λ (n : ℕ). Some n) (sym handle),
   )
 
   -- ---- the file
 
-  file_is : g.file r.handle.0 ≡ renamed (e.file r.handle.0)
+  file_is : g.file all.0.fd ≡ renamed (e.file all.0.fd)
   file_is = subst (λ (n : ℕ). g.file n ≡ renamed (e.file n)) fd_is (ap (λ (y : Disk). y.file renames.0) renames.2 ∙ same_file renames.0 (renamed (e.file renames.0)) (e.file renames.0))
 
-  module _ (f : File) (w : LogFileWriter) (handle : f.handle.0 ≡ r.handle.0) (begun : IsBegun d e f (Ok w)) where
+  module _ (f : File) (w : LogFileWriter) (handle : f.handle.0 ≡ all.0.fd) (begun : IsBegun d e f (Ok w)) where
     pub reused_stored : IsPlain f.format → (id : FileId) → IsStored id f.format [] [] w.offset (g.file f.handle.0)
     reused_stored plain id =
         let n : ℕ = f.handle.0 in
@@ -261,11 +271,11 @@ module _ (p : SinglePipe) (d e g : Disk) (r : File) (rs : List File) (from to : 
 
     pub reused_writer : IsWriter w g
     reused_writer =
-        let fd : w.fd.0 ≡ r.handle.0 = ap (λ h. h.0) begun.4 ∙ handle in
+        let fd : w.fd.0 ≡ all.0.fd = ap (λ h. h.0) begun.4 ∙ handle in
         writer_same w e g (ap (λ (x : FileState). length x.bytes) (ap g.file fd ∙ file_is ∙ ap (λ (m : ℕ). renamed (e.file m)) (sym fd))) begun.3
 
   -- or perhaps it got it
-  pub reused_goes : (f : File) (w : LogFileWriter) → f.seq ≡ p.active.seq + 1 → f.path_id ≡ r.path_id → f.handle.0 ≡ r.handle.0 → IsPlain f.format → IsBegun d e f (Ok w) → GoesOn p d g (Ok (f, w))
+  pub reused_goes : (f : File) (w : LogFileWriter) → f.seq ≡ p.active.seq + 1 → f.path_id ≡ r.path_id → f.handle.0 ≡ all.0.fd → IsPlain f.format → IsBegun d e f (Ok w) → GoesOn p d g (Ok (f, w))
   reused_goes f w seq place handle plain begun = (
     reused_behind f seq place handle,
     reused_stored f w handle begun plain (id_of p.queue f.seq),
@@ -274,15 +284,15 @@ module _ (p : SinglePipe) (d e g : Disk) (r : File) (rs : List File) (from to : 
     omega (arith, begun.5, header_short f.format, length-header f.format),
   )
 
-  pub half_goes : (f : File) (w : LogFileWriter) (x : IoFault) → f.seq ≡ p.active.seq + 1 → f.path_id ≡ r.path_id → f.handle.0 ≡ r.handle.0 → IsPlain f.format → IsBegun d e f (Ok w) → GoesOn p d g (Err x)
+  pub half_goes : (f : File) (w : LogFileWriter) (x : IoFault) → f.seq ≡ p.active.seq + 1 → f.path_id ≡ r.path_id → f.handle.0 ≡ all.0.fd → IsPlain f.format → IsBegun d e f (Ok w) → GoesOn p d g (Err x)
   half_goes f w x seq place handle plain begun =
       inr (f, reused_behind f seq place handle, stored_none (id_of p.queue f.seq) f.format w.offset (g.file f.handle.0) (reused_stored f w handle begun plain (id_of p.queue f.seq)))
 
 -- it got its header, and then perhaps its name
-module _ (p : SinglePipe) (d e g : Disk) (r : File) (rs : List File) (from to : Text) (named : IsNamed d) (named_e : IsNamed e) (named_g : IsNamed g) (number : IsFileSeq (p.active.seq + 1))
-    (all : AreReserved p.queue (directories_of_pipe p) d (r ∷ rs)) (change : Changes d e r.handle.0) (from_is : from ≡ reserved_path (directories_of_pipe p) r.path_id r.seq) (to_is : to ≡ next_in p r.path_id)
+module _ (p : SinglePipe) (d e g : Disk) (r : ReservedFile) (rs : List ReservedFile) (from to : Text) (named : IsNamed d) (named_e : IsNamed e) (named_g : IsNamed g) (number : IsFileSeq (p.active.seq + 1))
+    (all : AreReserved p.queue (directories_of_pipe p) d (r ∷ rs)) (change : Changes d e all.0.fd) (from_is : from ≡ reserved_path (directories_of_pipe p) r.path_id r.seq) (to_is : to ≡ next_in p r.path_id)
     (free : fd_of d.names to ≡ None) where
-  pub perhaps_goes : (f : File) (w : LogFileWriter) (x : IoFault) → f.seq ≡ p.active.seq + 1 → f.path_id ≡ r.path_id → f.handle.0 ≡ r.handle.0 → IsPlain f.format → IsBegun d e f (Ok w) → (g ≡ e) ⊎ Renames e g from to → GoesOn p d g (Err x)
+  pub perhaps_goes : (f : File) (w : LogFileWriter) (x : IoFault) → f.seq ≡ p.active.seq + 1 → f.path_id ≡ r.path_id → f.handle.0 ≡ all.0.fd → IsPlain f.format → IsBegun d e f (Ok w) → (g ≡ e) ⊎ Renames e g from to → GoesOn p d g (Err x)
   perhaps_goes f w x seq place handle plain begun (inl same) =
       inl (subst (KeepsAllLogs d) (sym same) (header_logs p.queue (directories_of_pipe p) d e r named all.0 change))
   perhaps_goes f w x seq place handle plain begun (inr renames) =
@@ -295,19 +305,19 @@ module _ (p : SinglePipe) (d e g : Disk) (r : File) (rs : List File) (from to : 
 -- ---- one call after another
 
 -- the same files are reserved
-pub left_same : (a b : Vec File Global) → b ≡ a → AreLastOf a.items b.items
-left_same a b same = (0, ap (λ (v : Vec File Global). v.items) same)
+pub left_same : (a b : Vec ReservedFile Global) → b ≡ a → AreLastOf a.items b.items
+left_same a b same = (0, ap (λ (v : Vec ReservedFile Global). v.items) same)
 
 -- what the call of a pipe with the same last file takes
-pub takes_before : (p q : SinglePipe) (d e g : Disk) (left : List File) (f : File) → q.active ≡ p.active → q.queue ≡ p.queue → q.paths ≡ p.paths → q.reserved ≡ p.reserved → e.next ≡ d.next → TakesFirst q.reserved.items q e left f g
+pub takes_before : (p q : SinglePipe) (d e g : Disk) (left : List ReservedFile) (f : File) → q.active ≡ p.active → q.queue ≡ p.queue → q.paths ≡ p.paths → q.reserved ≡ p.reserved → e.next ≡ d.next → e.names ≡ d.names → TakesFirst q.reserved.items q e left f g
     → TakesFirst p.reserved.items p d left f g
-takes_before p q d e g left f active queue paths reserved next takes = by_list p.reserved.items (subst (λ (v : Vec File Global). TakesFirst v.items q e left f g) reserved takes)
+takes_before p q d e g left f active queue paths reserved next names takes = by_list p.reserved.items (subst (λ (v : Vec ReservedFile Global). TakesFirst v.items q e left f g) reserved takes)
   where
-    by_list : (rs : List File) → TakesFirst rs q e left f g → TakesFirst rs p d left f g
+    by_list : (rs : List ReservedFile) → TakesFirst rs q e left f g → TakesFirst rs p d left f g
     by_list [] (left_is, new) = (left_is, new ∙ next)
     by_list (r ∷ rs) (left_is, handle, gone, there) = (
       left_is,
-      handle,
+      (λ i. fd_of (sym names i) (reserved_path (map string_bytes (sym paths i).items) r.path_id r.seq)) ∙ handle,
       (λ i. fd_of g.names (reserved_path (map string_bytes (sym paths i).items) r.path_id r.seq)) ∙ gone,
       (λ i. fd_of g.names (path_in (map string_bytes (sym paths i).items) r.path_id (id_of (sym queue i) ((sym active i).seq + 1)))) ∙ there,
     )

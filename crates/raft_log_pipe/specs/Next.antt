@@ -10,6 +10,7 @@ use Rattle.raft_log_disk.specs.Text.{Text}
 use Rattle.raft_log_file.specs.declared.writer.LogFileWriter.{LogFileWriter}
 use Rattle.raft_log_file.specs.Writer.{IsWriter}
 use Rattle.raft_log_pipe.specs.declared.file.File.{File}
+use Rattle.raft_log_pipe.specs.declared.file.ReservedFile.{ReservedFile}
 use Rattle.raft_log_pipe.specs.declared.pipe.SinglePipe.{SinglePipe}
 use Rattle.raft_log_pipe.specs.Alone.{directories_of_pipe, path_in}
 use Rattle.raft_log_pipe.specs.Pipe.{FileReads, id_of}
@@ -51,7 +52,7 @@ GoesOn p d e (Ok x) = IsBehind p d e x.0 × IsStored (id_of p.queue x.0.seq) x.0
 GoesOn p d e (Err x) = KeepsAllLogs d e ⊎ ((f : File) × IsBehind p d e f × HasNoBatches (id_of p.queue f.seq) (e.file f.handle.0))
 
 -- the first of these reserved files goes on: its name is the next one now, and the others stay reserved. Where there is none a new file goes on
-abbrev pub TakesFirst : List File → SinglePipe → Disk → List File → File → Disk → Type 0
+abbrev pub TakesFirst : List ReservedFile → SinglePipe → Disk → List ReservedFile → File → Disk → Type 0
 TakesFirst [] p d left f e = (left ≡ []) × (f.handle.0 ≡ d.next)
-TakesFirst (r ∷ rs) p d left f e = (left ≡ rs) × (f.handle ≡ r.handle)
-    × (fd_of e.names (reserved_path (directories_of_pipe p) r.path_id r.seq) ≡ None) × (fd_of e.names (next_in p r.path_id) ≡ Some r.handle.0)
+TakesFirst (r ∷ rs) p d left f e = (left ≡ rs) × (fd_of d.names (reserved_path (directories_of_pipe p) r.path_id r.seq) ≡ Some f.handle.0)
+    × (fd_of e.names (reserved_path (directories_of_pipe p) r.path_id r.seq) ≡ None) × (fd_of e.names (next_in p r.path_id) ≡ Some f.handle.0)

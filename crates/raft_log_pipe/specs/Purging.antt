@@ -18,7 +18,7 @@ from_file seq [] = []
 from_file seq (b ∷ bs) = if nat_lt b.0 seq then from_file seq bs else b ∷ from_file seq bs
 
 -- these are the last ones of those files
-abbrev pub AreLastOf : List File → List File → Type 0
+abbrev pub AreLastOf : {X : Type 0} → List X → List X → Type 0
 AreLastOf old new = (n : ℕ) × (new ≡ drop n old)
 
 -- the pipe holds the batches of its files that are left

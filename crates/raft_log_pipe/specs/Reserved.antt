@@ -6,7 +6,7 @@ use Rattle.raft_log_records.specs.declared.file_id.LogQueue.TheVariants.{Append,
 use Rattle.raft_log_disk.specs.Text.{Text}
 use Rattle.raft_log_disk.specs.Disk.{Disk, IsIn}
 use Rattle.raft_log_files.specs.FileName.{IsFileSeq, reserved_name}
-use Rattle.raft_log_pipe.specs.declared.file.File.{File}
+use Rattle.raft_log_pipe.specs.declared.file.ReservedFile.{ReservedFile}
 
 -- the path of a reserved file in the directory at a place
 abbrev pub reserved_path : List Text → ℕ → ℕ → Text
@@ -18,14 +18,15 @@ IsReservedPath Append path = (directory : Text) × (n : ℕ) × IsFileSeq n × (
 IsReservedPath Rewrite path = ⊥
 
 -- the file has its reserved name, in a directory that is there
-pub record IsReserved (queue : LogQueue) (directories : List Text) (d : Disk) (f : File) : Type 0 where
+pub record IsReserved (queue : LogQueue) (directories : List Text) (d : Disk) (f : ReservedFile) : Type 0 where
   pub own : queue ≡ Append
   pub number : IsFileSeq f.seq
   pub within : f.path_id < length directories
-  pub there : IsIn (reserved_path directories f.path_id f.seq, f.handle.0) d.names
+  pub fd : ℕ
+  pub there : IsIn (reserved_path directories f.path_id f.seq, fd) d.names
   pub directory : IsIn (slice_index_or directories f.path_id []) d.directories
 
 -- so have these, with rising numbers
-abbrev pub AreReserved : LogQueue → List Text → Disk → List File → Type 0
+abbrev pub AreReserved : LogQueue → List Text → Disk → List ReservedFile → Type 0
 AreReserved queue directories d [] = Unit {0}
 AreReserved queue directories d (f ∷ fs) = IsReserved queue directories d f × AllByRecursion (λ g. f.seq < g.seq) fs × AreReserved queue directories d fs

@@ -13,6 +13,7 @@ use Rattle.raft_log_files.specs.declared.error.Error.TheVariants.{Io, Corruption
 use Rattle.raft_log_files.specs.declared.error.OtherFault.TheVariants as other
 use Rattle.raft_log_file.specs.Laws.{Batch}
 use Rattle.raft_log_pipe.specs.declared.file.File.{File}
+use Rattle.raft_log_pipe.specs.declared.file.ReservedFile.{ReservedFile}
 use Rattle.raft_log_pipe.specs.declared.pipe.SinglePipe.{SinglePipe}
 use Rattle.raft_log_pipe.specs.Alone.{path_in}
 use Rattle.raft_log_pipe.specs.Blocks.{IsOutOfSpan}
@@ -50,7 +51,7 @@ main_path [] id = []
 main_path (dir ∷ dirs) id = string_bytes dir ++ 47 ∷ log_file_name id
 
 -- where a file goes behind these reserved ones: where the first of them lies, or to the main directory
-abbrev pub path_behind : List File → List (String Global) → FileId → Text
+abbrev pub path_behind : List ReservedFile → List (String Global) → FileId → Text
 path_behind [] dirs id = main_path dirs id
 path_behind (r ∷ rs) dirs id = path_in (map string_bytes dirs) r.path_id id
 

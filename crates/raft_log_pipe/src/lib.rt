@@ -10,6 +10,6 @@ mod purging;
 mod reading;
 mod rotate;
 
-pub use file::{File, Paths};
+pub use file::{File, Paths, ReservedFile};
 pub use laws::{pipes_are_torn_at_end, pipes_leave_a_front};
 pub use pipe::SinglePipe;

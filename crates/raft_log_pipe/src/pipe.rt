@@ -9,7 +9,7 @@ ghost use Rattle.raft_log_pipe.specs.Others.{KeepsOthers};
 ghost use Rattle.raft_log_pipe.specs.Pipe.{IsPipe, Holds, Numbered, first_of};
 ghost use Rattle.raft_log_pipe.specs.Taken.{IsOkOrMemory};
 
-use crate::file::{File, Paths};
+use crate::file::{File, Paths, ReservedFile};
 use raft_log_file::LogFileWriter;
 use raft_log_files::{Error, FileSystem, LogFileFormat};
 use raft_log_records::{FileSeq, LogQueue};
@@ -32,7 +32,7 @@ pub struct SinglePipe {
     pub(crate) active: File,
     pub(crate) writer: LogFileWriter,
     /// Files that are kept for reuse under names of their own, of rising numbers.
-    pub(crate) reserved: Vec<File>,
+    pub(crate) reserved: Vec<ReservedFile>,
 }
 
 impl SinglePipe {

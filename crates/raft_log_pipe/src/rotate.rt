@@ -20,12 +20,12 @@ ghost use Rattle.raft_log_records.specs.declared.file_id.FileId.{FileId};
 ghost use Rattle.raft_log_pipe.specs.Torn.{IsTornAtEnd, IsUnaligned, TearsAtEnd};
 ghost use Rattle.raft_log_pipe.specs.Taken.{IsBarred, IsOkOrMemory, IsRotationTaken, IsTakenBy, IsUnmade, IsUnnumbered};
 
-use crate::file::{File, new_file};
+use crate::file::{File, ReservedFile, new_file};
 use crate::pipe::SinglePipe;
 use raft_log_file::{LogFileWriter, build_file_writer};
 use raft_log_files::{
-    Error, FileNameExt, FileSystem, IoFault, LogFileFormat, OtherFault, build_reserved_file_name,
-    is_file_seq,
+    Error, FileNameExt, FileSystem, IoFault, LogFileFormat, OtherFault, Permission,
+    build_reserved_file_name, is_file_seq,
 };
 use raft_log_records::{FileId, FileSeq};
 use std::alloc::{AllocError, Global};
@@ -67,7 +67,7 @@ fn reserved_path(alloc: Global, directory: &str, seq: FileSeq) -> Result<String,
 }
 
 /// The list without its first file.
-fn drop_first(files: &mut Vec<File>)
+fn drop_first(files: &mut Vec<ReservedFile>)
     ensures { files.new.items ≡ drop 1 files.old.items }
 {
     if !files.is_empty() {
@@ -166,9 +166,13 @@ impl SinglePipe {
         let directory = self.paths[kept.path_id].as_str();
         let from = reserved_path(self.alloc, directory, kept.seq)?;
         let to = id.build_file_path(self.alloc, directory)?;
+        let handle = match files.open(from.as_str(), Permission::ReadWrite) {
+            Ok(handle) => handle,
+            Err(fault) => return Err(fault),
+        };
         let file = File {
             seq: id.seq,
-            handle: kept.handle,
+            handle,
             format: self.default_format,
             path_id: kept.path_id,
             reserved: false,

@@ -97,4 +97,4 @@ returns-in_err-finish-clause-reserved g c = left_same c.args.self.now.reserved c
 pub returns-clause-takes : goal.returns-clause-takes
 returns-clause-takes g c =
     takes_before c.args.self.now c.finish.new.self (g.F.FileSystem.disk c.args.files.now) (g.F.FileSystem.disk c.finish.new.files) (g.F.FileSystem.disk c.go_on.new.files) c.go_on.new.self.reserved.items c.go_on.new.self.active
-    c.in_ok-finish.ensures.same.0 c.in_ok-finish.ensures.same.2 c.in_ok-finish.ensures.paths c.in_ok-finish.ensures.reserved c.in_ok-finish.ensures.next c.in_ok-go_on.ensures.takes
+    c.in_ok-finish.ensures.same.0 c.in_ok-finish.ensures.same.2 c.in_ok-finish.ensures.paths c.in_ok-finish.ensures.reserved c.in_ok-finish.ensures.next c.in_ok-finish.ensures.names c.in_ok-go_on.ensures.takes
