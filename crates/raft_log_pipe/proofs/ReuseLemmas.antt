@@ -1,12 +1,14 @@
 -- A reserved file that goes on: its header is written, and then it gets the next name.
-use Rattle.std.proofs.Common.{◌≡◌, ◌≢◌, ◌⊎◌, inl, inr, ⊎_elim, ℕ, ◌+◌, ◌<◌, ◌≤◌, Bool, true, false, List, [], ◌∷◌, ◌++◌, length, get_or, take, drop, map, Option, Some, None, refl, sym, ap, subst, ◌∙◌, arith, length-append}
-use Rattle.std.specs.Prelude.{Result, Ok, Err, String, Vec}
+use Rattle.std.proofs.Common.{◌≡◌, ◌≢◌, ◌⊎◌, inl, inr, ⊎_elim, ℕ, ◌+◌, ◌<◌, ◌≤◌, Bool, true, false, List, [], ◌∷◌, ◌++◌, ◌-◌, length, get_or, take, drop, map, Option, Some, None, refl, sym, ap, subst, ◌∙◌, arith, length-append}
+use Rattle.std.specs.Prelude.{Result, Ok, Err, String, Vec, IfOk, IsTrue, is_some}
+use Rattle.std.proofs.lemmas.Bool.{ltb-true}
 use Rattle.std.specs.String.{string_bytes}
 use Rattle.std.specs.List.{AllByRecursion}
 use Rattle.std.specs.declared.alloc.Global.{Global}
-use Rattle.std.proofs.lemmas.List.{append-nil, take_at, length-map}
+use Rattle.std.proofs.lemmas.List.{append-nil, take_all, take_at, length-map}
 use Rattle.raft_log_records.specs.declared.file_id.FileId.{FileId}
 use Rattle.raft_log_records.specs.declared.file_id.LogQueue.{LogQueue}
+use Rattle.raft_log_records.specs.declared.file_id.LogQueue.TheVariants.{Append}
 use Rattle.raft_log_disk.specs.declared.fault.IoFault.{IoFault}
 use Rattle.raft_log_disk.specs.declared.format.LogFileFormat.{LogFileFormat}
 use Rattle.raft_log_disk.specs.Text.{Text, same_text}
@@ -15,7 +17,7 @@ use Rattle.raft_log_disk.specs.Disk.{Disk, FileState, HasDirectory, IsIn, IsName
 use Rattle.raft_log_disk.specs.Format.{spelled_header}
 use Rattle.raft_log_disk.proofs.DiskLemmas.{moved_gone, moved_other, other_file, same_file}
 use Rattle.raft_log_disk.proofs.NameLemmas.{moved_there}
-use Rattle.raft_log_files.specs.FileName.{IsFileSeq, log_file_name}
+use Rattle.raft_log_files.specs.FileName.{IsFileSeq, log_file_name, reserved_name}
 use Rattle.raft_log_file.specs.declared.writer.LogFileWriter.{LogFileWriter}
 use Rattle.raft_log_file.specs.Laws.{file_text}
 use Rattle.raft_log_file.specs.Writer.{IsWriter}
@@ -29,7 +31,7 @@ use Rattle.raft_log_pipe.specs.Next.{GoesOn, IsBehind, KeepsAllLogs, KeepsLogs, 
 use Rattle.raft_log_pipe.specs.Others.{IsOther, KeepsOthers}
 use Rattle.raft_log_pipe.specs.Pipe.{id_of, HasPath, IsPipe, IsPlain}
 use Rattle.raft_log_pipe.specs.Purging.{AreLastOf}
-use Rattle.raft_log_pipe.specs.Reserved.{AreReserved, IsReserved, IsReservedPath, reserved_path}
+use Rattle.raft_log_pipe.specs.Reserved.{AreReserved, IsReserved, IsReservedPath, is_before, reserved_path}
 use Rattle.raft_log_pipe.specs.Stored.{IsStored}
 use Rattle.raft_log_pipe.specs.Taken.{IsBarred, path_behind}
 use Rattle.raft_log_pipe.proofs.AloneLemmas.{found_in, mapped_at, none_some, said_in}
@@ -321,3 +323,47 @@ takes_before p q d e g left f active queue paths reserved next names takes = by_
       (λ i. fd_of g.names (reserved_path (map string_bytes (sym paths i).items) r.path_id r.seq)) ∙ gone,
       (λ i. fd_of g.names (path_in (map string_bytes (sym paths i).items) r.path_id (id_of (sym queue i) ((sym active i).seq + 1)))) ∙ there,
     )
+
+-- ---- which files are reserved
+
+pub reserved_found : (queue : LogQueue) (directories : List Text) (d : Disk) (f : ReservedFile) (path directory : Text) → queue ≡ Append → IsFileSeq f.seq → f.path_id < length directories → path ≡ directory ++ 47 ∷ reserved_name f.seq
+    → directory ≡ get_or directories f.path_id [] → IsIn directory d.directories → is_some (fd_of d.names path) ≡ true → IsReserved queue directories d f
+reserved_found queue directories d f path directory own number within is at there found =
+    let path_is : path ≡ reserved_path directories f.path_id f.seq = is ∙ ap (λ (l : Text). l ++ 47 ∷ reserved_name f.seq) at in
+    let named = by_option (fd_of d.names path) refl found in
+    record {
+      own = own;
+      number = number;
+      within = within;
+      fd = named.0;
+      there = subst (λ (t : Text). IsIn (t, named.0) d.names) path_is (found_in d.names path named.0 named.1);
+      directory = subst (λ (t : Text). IsIn t d.directories) at there;
+    }
+  where
+    by_option : (o : Option ℕ) → fd_of d.names path ≡ o → is_some o ≡ true → (n : ℕ) × (fd_of d.names path ≡ Some n)
+    by_option None same some = absurd cc
+    by_option (Some n) same some = (n, same)
+
+pub reserved_is_file : (queue : LogQueue) (directories : List Text) (d : Disk) (f : ReservedFile) (path : Text) → IsNamed d → path ≡ reserved_path directories f.path_id f.seq → IsReserved queue directories d f → is_some (fd_of d.names path) ≡ true
+reserved_is_file queue directories d f path named path_is is = ap is_some (ap (fd_of d.names) path_is ∙ found_there d.names d.next (reserved_path directories f.path_id f.seq) is.fd named is.there)
+
+ok_more : {T E : Type 0} (r : Result T E) (P Q : T → Type 0) → ((x : T) → P x → Q x) → IfOk r P → IfOk r Q
+ok_more (Ok x) P Q f p = f x p
+ok_more (Err e) P Q f p = tt
+
+rising : (queue : LogQueue) (directories : List Text) (d : Disk) (f : ReservedFile) (fs : List ReservedFile) → is_before f fs ≡ true → AreReserved queue directories d fs → AllByRecursion (λ g. f.seq < g.seq) fs
+rising queue directories d f [] before all = tt
+rising queue directories d f (g ∷ fs) before all = let low = ltb-true f.seq g.seq before in (low, above fs all.1 low)
+  where
+    above : (hs : List ReservedFile) → AllByRecursion (λ h. g.seq < h.seq) hs → f.seq < g.seq → AllByRecursion (λ h. f.seq < h.seq) hs
+    above [] more low = tt
+    above (h ∷ hs) more low = (omega (arith, more.0, low), above hs more.1 low)
+
+-- the first one, and the others behind it
+pub all_reserved : {E : Type 0} (r : Result Bool E) (queue : LogQueue) (directories : List Text) (d : Disk) (fs : List ReservedFile) (x : ReservedFile) → 1 ≤ length fs → IsReserved queue directories d (get_or fs 0 x)
+    → is_before (get_or fs 0 x) (take (length fs - 1) (drop 1 fs)) ≡ true → IfOk r (λ b. IsTrue b → AreReserved queue directories d (take (length fs - 1) (drop 1 fs))) → IfOk r (λ b. IsTrue b → AreReserved queue directories d fs)
+all_reserved r queue directories d [] x some first before rest = absurd (omega (arith, some))
+all_reserved r queue directories d (f ∷ fs) x some first before rest =
+    let whole : take (length (f ∷ fs) - 1) fs ≡ fs = take_all (length (f ∷ fs) - 1) fs (omega arith) in
+    ok_more r (λ b. IsTrue b → AreReserved queue directories d (take (length (f ∷ fs) - 1) fs)) (λ b. IsTrue b → AreReserved queue directories d (f ∷ fs))
+    (λ b tells yes. let all = subst (AreReserved queue directories d) whole (tells yes) in (first, rising queue directories d f fs (ap (is_before f) (sym whole) ∙ before) all, all)) rest

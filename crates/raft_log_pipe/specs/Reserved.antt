@@ -1,5 +1,5 @@
 -- Files that are kept for reuse: they have names of their own, which are no log file's. The append queue alone has them.
-use Rattle.std.specs.Prelude.{◌≡◌, ℕ, ◌<◌, List, [], ◌∷◌, ◌++◌, length}
+use Rattle.std.specs.Prelude.{◌≡◌, ℕ, ◌<◌, nat_lt, Bool, true, List, [], ◌∷◌, ◌++◌, length}
 use Rattle.std.specs.List.{AllByRecursion, slice_index_or}
 use Rattle.raft_log_records.specs.declared.file_id.LogQueue.{LogQueue}
 use Rattle.raft_log_records.specs.declared.file_id.LogQueue.TheVariants.{Append, Rewrite}
@@ -30,3 +30,8 @@ pub record IsReserved (queue : LogQueue) (directories : List Text) (d : Disk) (f
 abbrev pub AreReserved : LogQueue → List Text → Disk → List ReservedFile → Type 0
 AreReserved queue directories d [] = Unit {0}
 AreReserved queue directories d (f ∷ fs) = IsReserved queue directories d f × AllByRecursion (λ g. f.seq < g.seq) fs × AreReserved queue directories d fs
+
+-- a test: a number is below that of the first of these
+abbrev pub is_before : ReservedFile → List ReservedFile → Bool
+is_before f [] = true
+is_before f (g ∷ gs) = nat_lt f.seq g.seq

@@ -8,6 +8,7 @@ mod opening;
 mod pipe;
 mod purging;
 mod reading;
+mod reserved;
 mod rotate;
 
 pub use file::{File, Paths, ReservedFile};

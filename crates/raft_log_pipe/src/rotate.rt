@@ -1,11 +1,11 @@
 //! Rotation: the last file is cut and synced, and a new one goes on.
 
-ghost use Rattle.std.specs.Prelude.{◌≡◌, ◌+◌, ◌-◌, ◌<◌, ◌≤◌, ◌++◌, ◌∷◌, [], drop, length, string_bytes, IfErr, IfOk, IsErrOf, OnOk, OnErr};
+ghost use Rattle.std.specs.Prelude.{◌≡◌, ◌+◌, ◌-◌, ◌<◌, ◌≤◌, ◌++◌, ◌∷◌, [], drop, length, IfErr, IfOk, IsErrOf, OnOk, OnErr};
 ghost use Rattle.raft_log_disk.specs.declared.fault.IoFault.TheVariants.{NoSpace};
 ghost use Rattle.raft_log_disk.specs.Cause.{IsTaken, Lacks, NothingRefuses, RefusesNoMore, Rises};
 ghost use Rattle.raft_log_disk.specs.Disk.{IsNoFile, no_bytes};
 ghost use Rattle.raft_log_file.specs.Writer.{IsWriter};
-ghost use Rattle.raft_log_files.specs.FileName.{IsFileSeq, reserved_name};
+ghost use Rattle.raft_log_files.specs.FileName.{IsFileSeq};
 ghost use Rattle.raft_log_pipe.specs.Kept.{KeepsSettings};
 ghost use Rattle.raft_log_pipe.specs.Others.{KeepsOthers};
 ghost use Rattle.raft_log_pipe.specs.Pipe.{IsPipe, IsPlain, Holds, Leaves, Numbered};
@@ -22,13 +22,13 @@ ghost use Rattle.raft_log_pipe.specs.Taken.{IsBarred, IsOkOrMemory, IsRotationTa
 
 use crate::file::{File, ReservedFile, new_file};
 use crate::pipe::SinglePipe;
+use crate::reserved::reserved_path;
 use raft_log_file::{LogFileWriter, build_file_writer};
 use raft_log_files::{
-    Error, FileNameExt, FileSystem, IoFault, LogFileFormat, OtherFault, Permission,
-    build_reserved_file_name, is_file_seq,
+    Error, FileNameExt, FileSystem, IoFault, LogFileFormat, OtherFault, Permission, is_file_seq,
 };
-use raft_log_records::{FileId, FileSeq};
-use std::alloc::{AllocError, Global};
+use raft_log_records::FileId;
+use std::alloc::Global;
 
 /// Writes and syncs the header of a file that is to begin.
 pub(crate) fn begin_file<F: FileSystem>(
@@ -52,18 +52,6 @@ pub(crate) fn begin_file<F: FileSystem>(
         return Err(fault);
     }
     Ok(writer)
-}
-
-/// The path of a reserved file in a directory.
-fn reserved_path(alloc: Global, directory: &str, seq: FileSeq) -> Result<String, AllocError>
-    requires { IsFileSeq seq }
-    ensures { IfOk result (λ s. string_bytes s ≡ directory.now ++ 47 ∷ reserved_name seq) }
-{
-    let name = build_reserved_file_name(alloc, seq)?;
-    let mut path = String::from_str(alloc, directory)?;
-    path.push_str("/")?;
-    path.push_str(name.as_str())?;
-    Ok(path)
 }
 
 /// The list without its first file.

@@ -1,0 +1,113 @@
+//! Files that are kept for reuse.
+
+ghost use Rattle.std.specs.Prelude.{◌≡◌, ◌↔◌, ◌++◌, ◌∷◌, string_bytes, IfErr, IfOk, IsTrue, OnOk, OnErr};
+ghost use Rattle.raft_log_files.specs.FileName.{IsFileSeq, reserved_name};
+ghost use Rattle.raft_log_files.specs.declared.error.Error.TheVariants.{Memory};
+ghost use Rattle.raft_log_pipe.specs.Alone.{directories_of_pipe};
+ghost use Rattle.raft_log_pipe.specs.Kept.{KeepsSettings};
+ghost use Rattle.raft_log_pipe.specs.Pipe.{IsPipe};
+ghost use Rattle.raft_log_pipe.specs.Reserved.{AreReserved, IsReserved, is_before};
+
+use crate::file::ReservedFile;
+use crate::pipe::SinglePipe;
+use raft_log_files::{Error, FileSystem, build_reserved_file_name, is_file_seq};
+use raft_log_records::{FileSeq, LogQueue};
+use std::alloc::{AllocError, Global};
+
+/// The path of a reserved file in a directory.
+pub(crate) fn reserved_path(
+    alloc: Global,
+    directory: &str,
+    seq: FileSeq,
+) -> Result<String, AllocError>
+    requires { IsFileSeq seq }
+    ensures { IfOk result (λ s. string_bytes s ≡ directory.now ++ 47 ∷ reserved_name seq) }
+{
+    let name = build_reserved_file_name(alloc, seq)?;
+    let mut path = String::from_str(alloc, directory)?;
+    path.push_str("/")?;
+    path.push_str(name.as_str())?;
+    Ok(path)
+}
+
+impl SinglePipe {
+    /// Whether a reserved file of the pipe has this number and stands in this directory.
+    fn is_reserved<F: FileSystem>(
+        &self,
+        files: &F,
+        file: ReservedFile,
+    ) -> Result<bool, AllocError>
+        ensures yes { IfOk result (λ b. IsTrue b → IsReserved self.now.queue (directories_of_pipe self.now) (F.disk files.now) file) }
+        ensures no { IfOk result (λ b. IsReserved self.now.queue (directories_of_pipe self.now) (F.disk files.now) file → IsTrue b) }
+    {
+        match self.queue {
+            LogQueue::Append => {}
+            LogQueue::Rewrite => return Ok(false),
+        }
+        if !is_file_seq(file.seq) || file.path_id >= self.paths.len() {
+            return Ok(false);
+        }
+        let directory = self.paths[file.path_id].as_str();
+        let path = reserved_path(self.alloc, directory, file.seq)?;
+        if !files.is_dir(directory) {
+            return Ok(false);
+        }
+        Ok(files.is_file(path.as_str()))
+    }
+
+    /// Whether all of these are, with rising numbers.
+    fn are_reserved<F: FileSystem>(
+        &self,
+        files: &F,
+        found: &[ReservedFile],
+    ) -> Result<bool, AllocError>
+        ensures yes { IfOk result (λ b. IsTrue b → AreReserved self.now.queue (directories_of_pipe self.now) (F.disk files.now) found.now) }
+        ensures no { IfOk result (λ b. AreReserved self.now.queue (directories_of_pipe self.now) (F.disk files.now) found.now → IsTrue b) }
+    {
+        match found {
+            [] => Ok(true),
+            [first, rest @ ..] => {
+                if !self.is_reserved(files, *first)? {
+                    return Ok(false);
+                }
+                if !rises(*first, rest) {
+                    return Ok(false);
+                }
+                self.are_reserved(files, rest)
+            }
+        }
+    }
+
+    /// Takes over the reserved files that an opening found: rotations take the first of them. The
+    /// pipe keeps none of them unless each is there.
+    pub fn keep_reserved<F: FileSystem>(
+        &mut self,
+        files: &F,
+        found: Vec<ReservedFile>,
+    ) -> Result<(), Error>
+        requires { IsPipe self.old (F.disk files.now) }
+        ensures pipe { IsPipe self.new (F.disk files.now) }
+        ensures same { (self.new.active ≡ self.old.active) × (self.new.older ≡ self.old.older) × (self.new.queue ≡ self.old.queue) }
+        ensures paths { self.new.paths ≡ self.old.paths }
+        ensures writer { self.new.writer ≡ self.old.writer }
+        ensures set { KeepsSettings self.old self.new }
+        ensures ok { OnOk result (AreReserved self.old.queue (directories_of_pipe self.old) (F.disk files.now) found.items → self.new.reserved.items ≡ found.items) }
+        ensures err { OnErr result (self.new ≡ self.old) }
+        ensures cause { IfErr result (λ e. e ≡ Memory) }
+    {
+        if self.are_reserved(files, &found)? {
+            self.reserved = found;
+        }
+        Ok(())
+    }
+}
+
+/// Whether the first one's number is below those of the others, where these rise.
+fn rises(first: ReservedFile, rest: &[ReservedFile]) -> bool
+    ensures { result ≡ is_before first rest.now }
+{
+    match rest {
+        [] => true,
+        [next, ..] => first.seq < next.seq,
+    }
+}
