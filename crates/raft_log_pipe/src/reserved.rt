@@ -4,7 +4,7 @@ ghost use Rattle.std.specs.Prelude.{◌≡◌, ◌↔◌, ◌++◌, ◌∷◌, s
 ghost use Rattle.raft_log_files.specs.FileName.{IsFileSeq, reserved_name};
 ghost use Rattle.raft_log_files.specs.declared.error.Error.TheVariants.{Memory};
 ghost use Rattle.raft_log_pipe.specs.Alone.{directories_of_pipe};
-ghost use Rattle.raft_log_pipe.specs.Kept.{KeepsSettings};
+ghost use Rattle.raft_log_pipe.specs.Kept.{with_reserved};
 ghost use Rattle.raft_log_pipe.specs.Pipe.{IsPipe};
 ghost use Rattle.raft_log_pipe.specs.Reserved.{AreReserved, IsReserved, is_before};
 
@@ -87,10 +87,7 @@ impl SinglePipe {
     ) -> Result<(), Error>
         requires { IsPipe self.old (F.disk files.now) }
         ensures pipe { IsPipe self.new (F.disk files.now) }
-        ensures same { (self.new.active ≡ self.old.active) × (self.new.older ≡ self.old.older) × (self.new.queue ≡ self.old.queue) }
-        ensures paths { self.new.paths ≡ self.old.paths }
-        ensures writer { self.new.writer ≡ self.old.writer }
-        ensures set { KeepsSettings self.old self.new }
+        ensures same { self.new ≡ with_reserved self.old self.new.reserved }
         ensures ok { OnOk result (AreReserved self.old.queue (directories_of_pipe self.old) (F.disk files.now) found.items → self.new.reserved.items ≡ found.items) }
         ensures err { OnErr result (self.new ≡ self.old) }
         ensures cause { IfErr result (λ e. e ≡ Memory) }

@@ -1,12 +1,15 @@
 //! Two pipes, and what they tell of their files.
 
-ghost use Rattle.std.specs.Prelude.{◌≡◌, ◌+◌, ◌-◌, ◌*◌, ◌/◌, ◌≤◌, ◌^◌, min, length};
+ghost use Rattle.std.specs.Prelude.{◌≡◌, ◌+◌, ◌-◌, ◌*◌, ◌/◌, ◌≤◌, ◌^◌, min, length, IfErr, OnOk};
+ghost use Rattle.raft_log_files.specs.declared.error.Error.TheVariants.{Memory};
 ghost use Rattle.raft_log_records.specs.declared.file_id.LogQueue.TheVariants.{Append, Rewrite};
 ghost use Rattle.raft_log_pipe.specs.Alone.{directories_of_pipe, main_of};
+ghost use Rattle.raft_log_pipe.specs.Kept.{with_reserved};
 ghost use Rattle.raft_log_pipe.specs.Pipe.{IsPipe, first_of};
+ghost use Rattle.raft_log_pipe.specs.Reserved.{AreReserved};
 
 use raft_log_files::{Error, FileSystem};
-use raft_log_pipe::SinglePipe;
+use raft_log_pipe::{ReservedFile, SinglePipe};
 use raft_log_records::{FileBlockHandle, FileSeq, LogQueue};
 
 /// The log files of both queues (raft-engine's `DualPipes`), each pipe of its queue. The file system
@@ -22,7 +25,7 @@ pub struct DualPipes {
 
 impl DualPipes {
     ghost use Rattle.raft_log_pipes.specs.Calls.{IsReadOf};
-    ghost use Rattle.raft_log_pipes.specs.Pipes.{pipe_of};
+    ghost use Rattle.raft_log_pipes.specs.Pipes.{ArePipes, pipe_of};
 
     /// The pipes of both queues (raft-engine's `open`).
     pub fn open(append: SinglePipe, rewrite: SinglePipe) -> DualPipes
@@ -31,6 +34,23 @@ impl DualPipes {
         ensures pipes { (result.append ≡ append) × (result.rewrite ≡ rewrite) }
     {
         DualPipes { append, rewrite }
+    }
+
+    /// Takes over the reserved files that an opening found, for the append queue: its rotations take
+    /// the first of them. It keeps none of them unless each is there.
+    pub fn keep_reserved<F: FileSystem>(
+        &mut self,
+        files: &F,
+        found: Vec<ReservedFile>,
+    ) -> Result<(), Error>
+        requires { ArePipes self.old (F.disk files.now) }
+        ensures pipes { ArePipes self.new (F.disk files.now) }
+        ensures append { self.new.append ≡ with_reserved self.old.append self.new.append.reserved }
+        ensures rewrite { self.new.rewrite ≡ self.old.rewrite }
+        ensures ok { OnOk result (AreReserved self.old.append.queue (directories_of_pipe self.old.append) (F.disk files.now) found.items → self.new.append.reserved.items ≡ found.items) }
+        ensures cause { IfErr result (λ e. e ≡ Memory) }
+    {
+        self.append.keep_reserved(files, found)
     }
 
     /// The main directory of the append queue's files.
