@@ -22,3 +22,4 @@ pub mod CorruptLemmas
 pub mod CausedLemmas
 pub mod HoleLemmas
 pub mod WayLemmas
+pub mod KeptLemmas

@@ -1,5 +1,5 @@
 -- Both queues, opened one after the other: the rewrite queue first, unless the append queue has no files.
-use Rattle.std.specs.Prelude.{◌≡◌, ◌⊎◌, List, ◌++◌, Result}
+use Rattle.std.specs.Prelude.{◌≡◌, ◌⊎◌, List, ◌++◌, map, Result}
 use Rattle.raft_log_records.specs.declared.file_id.LogQueue.{LogQueue}
 use Rattle.raft_log_records.specs.declared.file_id.LogQueue.TheVariants.{Append, Rewrite}
 use Rattle.raft_log_disk.specs.Cause.{Meter}
@@ -9,6 +9,7 @@ use Rattle.raft_log_files.specs.declared.recovery.RecoveryMode.{RecoveryMode}
 use Rattle.raft_log_files.specs.declared.error.Error.{Error}
 use Rattle.raft_log_pipe.specs.declared.pipe.SinglePipe.{SinglePipe}
 use Rattle.raft_log_pipe.specs.Alone.{IsAlone, IsOnce, directories_of_pipe}
+use Rattle.raft_log_pipe.specs.declared.file.ReservedFile.{ReservedFile}
 use Rattle.raft_log_pipe.specs.Others.{KeepsOthers}
 use Rattle.raft_log_pipe.specs.Pipe.{IsPipe}
 use Rattle.raft_log_pipes.specs.declared.pipes.DualPipes.{DualPipes}
@@ -114,3 +115,9 @@ HasFewHoles builder queue old new p = HolesOnlyBroken builder.config.recovery_mo
 -- nor has either pipe
 abbrev pub HaveFewHoles : DualPipesBuilder → Disk → Disk → DualPipes → Type 0
 HaveFewHoles builder old new p = (queue : LogQueue) → HasFewHoles builder queue old new (pipe_of p queue)
+
+-- ---- reserved files
+
+-- those of these names
+abbrev pub as_reserved : List FileName → List ReservedFile
+as_reserved names = map (λ f. record { seq = f.seq; path_id = f.path_id }) names
