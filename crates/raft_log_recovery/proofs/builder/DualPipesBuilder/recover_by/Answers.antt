@@ -8,7 +8,7 @@ use Rattle.raft_log_recovery.specs.Both.{CantBeOpened, IsEitherFault}
 use Rattle.raft_log_recovery.proofs.BothLemmas.{found_of, with_both}
 use Rattle.raft_log_recovery.proofs.CausedLemmas.{either_taken}
 use Rattle.raft_log_recovery.proofs.CorruptLemmas.{passed_on}
-use Rattle.std.proofs.Common.{List, map, sym, subst, ◌∙◌}
+use Rattle.std.proofs.Common.{List, map, inr, sym, subst, ◌∙◌}
 use Rattle.std.specs.String.{string_bytes}
 use Rattle.raft_log_disk.specs.Text.{Text}
 use Rattle.raft_log_records.specs.declared.file_id.LogQueue.TheVariants.{Append}
@@ -46,7 +46,7 @@ pub returns-in_err-with_found-clause-cause : goal.returns-in_err-with_found-clau
 returns-in_err-with_found-clause-cause g c =
     let y = c.open_both.new.files in
     let fault : Error → Type 0 = λ (e : Error). IsEitherFault c.args.self.now (g.F.FileSystem.disk c.args.files.now) (g.F.FileSystem.disk y) (g.F.FileSystem.is_bounded c.args.files.now) (g.F.FileSystem.meter c.args.files.now) (g.F.FileSystem.meter y) e in
-    told_cause c.from_residual-in_err-with_found.result c.in_err-with_found.field-0.0 fault c.from_residual-in_err-with_found.ensures.1 (subst fault (sym c.in_err-with_found.ensures.cause) (Append, tt))
+    told_cause c.from_residual-in_err-with_found.result c.in_err-with_found.field-0.0 fault c.from_residual-in_err-with_found.ensures.1 (subst fault (sym c.in_err-with_found.ensures.cause) (Append, inr tt))
 
 pub returns-in_err-with_found-clause-taken : goal.returns-in_err-with_found-clause-taken
 returns-in_err-with_found-clause-taken g c =
