@@ -1,5 +1,5 @@
 -- The log files of a queue in its directories, through the calls of a pipe.
-use Rattle.std.proofs.Common.{◌≡◌, ◌⊎◌, inl, inr, ⊎_elim, ℕ, zero, suc, ◌+◌, ◌<◌, ◌≤◌, max, Bool, true, false, cond, List, [], ◌∷◌, ◌++◌, length, get_or, map, Option, Some, None, refl, sym, ap, subst, ◌∙◌, arith}
+use Rattle.std.proofs.Common.{◌≡◌, ◌⊎◌, inl, inr, ⊎_elim, ℕ, zero, suc, ◌+◌, ◌<◌, ◌≤◌, Bool, true, false, cond, List, [], ◌∷◌, ◌++◌, length, get_or, map, Option, Some, None, refl, sym, ap, subst, ◌∙◌, arith}
 use Rattle.std.specs.Prelude.{Result, Ok, Err, OnOk, OnErr, String, Vec}
 use Rattle.std.specs.String.{string_bytes}
 use Rattle.std.specs.List.{AllByRecursion}
@@ -13,19 +13,16 @@ use Rattle.raft_log_disk.specs.declared.fault.IoFault.{IoFault}
 use Rattle.raft_log_disk.specs.Text.{Text, same_text}
 use Rattle.raft_log_disk.specs.Name.{log_file_of}
 use Rattle.raft_log_disk.specs.Disk.{Disk, FileState, IsIn, after_create, fd_of, no_bytes}
-use Rattle.raft_log_disk.specs.Format.{spelled_header}
 use Rattle.raft_log_disk.proofs.DiskLemmas.{pushed_other, pushed_there, same_file}
 use Rattle.raft_log_files.specs.FileName.{IsFileSeq, log_file_name}
-use Rattle.raft_log_file.specs.declared.writer.LogFileWriter.{LogFileWriter}
 use Rattle.raft_log_pipe.specs.declared.file.File.{File}
 use Rattle.raft_log_pipe.specs.declared.pipe.SinglePipe.{SinglePipe}
 use Rattle.raft_log_pipe.specs.Alone.{AreDistinct, AreLast, IsAlone, IsMadeAt, IsMadeIn, IsNearlyAlone, IsVacant, Names, StandsAt, directories_of_pipe, path_in}
-use Rattle.raft_log_pipe.specs.Begun.{Changes, IsBegun}
+use Rattle.raft_log_pipe.specs.Begun.{Changes}
 use Rattle.raft_log_pipe.specs.Blocks.{files_of}
 use Rattle.raft_log_pipe.specs.Found.{MakesButHeader}
-use Rattle.raft_log_pipe.specs.Pipe.{AreConsecutive, IsNamedSo, IsPlain, id_of}
-use Rattle.raft_log_pipe.specs.Stored.{IsStored}
-use Rattle.raft_log_pipe.proofs.PipeLemmas.{image_there, in_all, leaves_last, stays}
+use Rattle.raft_log_pipe.specs.Pipe.{AreConsecutive, IsNamedSo, id_of}
+use Rattle.raft_log_pipe.proofs.PipeLemmas.{in_all, stays}
 use Rattle.raft_log_pipe.proofs.NextLemmas.{consecutive_push, path_says, some_is}
 use Rattle.raft_log_pipe.proofs.ReservedLemmas.{not_same}
 

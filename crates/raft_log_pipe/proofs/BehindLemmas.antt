@@ -1,6 +1,6 @@
 -- A file behind the last one of a pipe: what it leaves of the others, and the pipe that goes on with it.
-use Rattle.std.proofs.Common.{◌≡◌, ◌≢◌, ◌⊎◌, inl, inr, ⊎_elim, ℕ, ◌+◌, ◌<◌, ◌≤◌, Bool, true, false, List, [], ◌∷◌, ◌++◌, length, get_or, take, drop, map, Option, Some, None, refl, sym, ap, subst, ◌∙◌, arith}
-use Rattle.std.specs.Prelude.{Result, Ok, Err, String, Vec}
+use Rattle.std.proofs.Common.{◌≡◌, ◌≢◌, inl, inr, ⊎_elim, ℕ, ◌+◌, ◌<◌, ◌≤◌, true, false, List, [], ◌∷◌, ◌++◌, length, Some, None, refl, sym, ap, subst, ◌∙◌, arith}
+use Rattle.std.specs.Prelude.{Result, Ok, Err, Vec}
 use Rattle.std.specs.Result.{IsErrAnd}
 use Rattle.std.proofs.lemmas.Result.{err_from_is_err_and}
 use Rattle.std.specs.String.{string_bytes}
@@ -16,10 +16,10 @@ use Rattle.raft_log_disk.specs.declared.fault.IoFault.{IoFault}
 use Rattle.raft_log_disk.specs.declared.format.LogFileFormat.{LogFileFormat}
 use Rattle.raft_log_disk.specs.Text.{Text, same_text}
 use Rattle.raft_log_disk.specs.Name.{log_file_of}
-use Rattle.raft_log_disk.specs.Disk.{Disk, FileState, IsIn, IsNamed, after_create, fd_of, no_bytes}
+use Rattle.raft_log_disk.specs.Disk.{Disk, FileState, IsIn, IsNamed, fd_of, no_bytes}
 use Rattle.raft_log_disk.specs.Format.{spelled_header}
 use Rattle.raft_log_disk.proofs.DiskLemmas.{other_file, pushed_other, pushed_there, same_file}
-use Rattle.raft_log_files.specs.FileName.{IsFileSeq, log_file_name}
+use Rattle.raft_log_files.specs.FileName.{IsFileSeq}
 use Rattle.raft_log_file.specs.declared.writer.LogFileWriter.{LogFileWriter}
 use Rattle.raft_log_file.specs.Laws.{Batch}
 use Rattle.raft_log_file.specs.Unsynced.{ReadsAs}
@@ -33,13 +33,13 @@ use Rattle.raft_log_pipe.specs.Alone.{AreLast, IsAlone, IsMadeAt, IsMadeIn, IsNe
 use Rattle.raft_log_pipe.specs.Begun.{Changes, IsBegun}
 use Rattle.raft_log_pipe.specs.Blocks.{files_of}
 use Rattle.raft_log_pipe.specs.Next.{GoesOn, HasNoBatches, IsBehind, KeepsAllLogs, KeepsLogs, next_in}
-use Rattle.raft_log_pipe.specs.Pipe.{Numbered, id_of, AreConsecutive, HasPath, Holds, HoldsIn, IsLast, IsNamedSo, IsPipe, IsPlain, LeavesIn}
+use Rattle.raft_log_pipe.specs.Pipe.{Numbered, id_of, AreConsecutive, Holds, HoldsIn, IsNamedSo, IsPipe, IsPlain, LeavesIn}
 use Rattle.raft_log_pipe.specs.Reserved.{AreReserved}
 use Rattle.raft_log_pipe.specs.Stored.{IsEnded, IsStored}
 use Rattle.raft_log_pipe.specs.Torn.{IsTornAtEnd, IsUnaligned}
-use Rattle.raft_log_pipe.proofs.AloneLemmas.{below_next, found_in, in_either, in_second, last_named, last_next, last_push, mapped_at, nearly, none_some, said_in, with_older}
+use Rattle.raft_log_pipe.proofs.AloneLemmas.{found_in, in_either, in_second, last_named, last_next, last_push, nearly, none_some, said_in, with_older}
 use Rattle.raft_log_pipe.proofs.KeptLemmas.{holds_kept, names_still, writer_same}
-use Rattle.raft_log_pipe.proofs.NextLemmas.{begun_changes, begun_stored, consecutive_push, has_path_says, header_short, new_empty, path_at, path_says, some_is}
+use Rattle.raft_log_pipe.proofs.NextLemmas.{begun_changes, begun_stored, consecutive_push, has_path_says, header_short, new_empty, some_is}
 use Rattle.raft_log_pipe.proofs.OthersLemmas.{below_next_name, found_there, one_path}
 use Rattle.raft_log_pipe.proofs.PipeLemmas.{file_beside, genuine_there, holds_leaves, holds_next, image_there, olders_next, stays}
 use Rattle.raft_log_pipe.proofs.ReservedLemmas.{not_same}

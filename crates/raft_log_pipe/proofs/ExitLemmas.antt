@@ -16,14 +16,12 @@ use Rattle.raft_log_disk.specs.Format.{spelled_header}
 use Rattle.raft_log_files.specs.declared.error.Error.{Error}
 use Rattle.raft_log_file.specs.Laws.{Batch}
 use Rattle.raft_log_file.specs.declared.writer.LogFileWriter.{LogFileWriter}
-use Rattle.raft_log_file.specs.Writer.{IsWriter}
 use Rattle.raft_log_pipe.specs.declared.file.File.{File}
 use Rattle.raft_log_pipe.specs.declared.pipe.SinglePipe.{SinglePipe}
 use Rattle.raft_log_pipe.specs.Appending.{Appends, IsHandle, LeavesAppended}
 use Rattle.raft_log_pipe.specs.Begun.{IsBegun}
 use Rattle.raft_log_pipe.specs.Placing.{IsCreated}
 use Rattle.raft_log_pipe.specs.Reserved.{AreReserved}
-use Rattle.raft_log_pipe.specs.Stored.{IsEnded}
 use Rattle.raft_log_pipe.specs.Pipe.{Numbered, id_of, AreConsecutive, HasPath, Holds, HoldsIn, IsLast, IsNamedSo, IsPipe, IsPlain, Leaves, LeavesIn}
 use Rattle.raft_log_pipe.proofs.PipeLemmas.{holds_leaves, leaves_less, leaves_more}
 use Rattle.raft_log_pipe.proofs.NextLemmas.{begun_changes, begun_stored, created_here, named_new, new_empty, next_last}

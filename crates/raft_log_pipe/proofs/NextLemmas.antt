@@ -1,9 +1,8 @@
 -- A new file: its name, its header, and the pipe that goes on with it.
 use Rattle.std.proofs.Common.{◌≡◌, ◌≢◌, ◌⊎◌, inl, inr, ⊎_elim, ℕ, zero, suc, ◌+◌, ◌-◌, ◌<◌, ◌≤◌, ◌^◌, min, max, Bool, true, false, cond, nat_lt, List, [], ◌∷◌, ◌++◌, length, get_or, drop, Option, Some, None, refl, sym, ap, subst, ◌∙◌, arith, append_assoc, length-append}
-use Rattle.std.specs.Prelude.{Result, Ok, Err, String, Vec, replicate, ◌==◌, ◌&&◌}
+use Rattle.std.specs.Prelude.{Result, Ok, Err, String, replicate, ◌==◌, ◌&&◌}
 use Rattle.std.specs.String.{string_bytes}
 use Rattle.std.specs.declared.alloc.Global.{Global}
-use Rattle.std.specs.List.{AllByRecursion}
 use Rattle.std.proofs.lemmas.Bool.{eq-eqb, lt-ltb}
 use Rattle.std.proofs.lemmas.List.{drop_at, length-drop, length-replicate}
 use Rattle.std.proofs.Math.Seq.{get_or-append_seam}
@@ -18,7 +17,6 @@ use Rattle.raft_log_disk.specs.Name.{file_id_of, log_file_of, queued, suffix_of}
 use Rattle.raft_log_disk.specs.Disk.{Disk, FileState, IsIn, after_create, after_sync, after_write, fd_of, filled, no_bytes, put, with_file}
 use Rattle.raft_log_records.specs.declared.version.Version.{Version}
 use Rattle.raft_log_records.specs.declared.version.Version.TheVariants.{V1, V2}
-use Rattle.raft_log_records.proofs.Sound.{each_push}
 use Rattle.raft_log_disk.specs.Format.{header_len, spelled_header}
 use Rattle.raft_log_disk.proofs.DiskLemmas.{other_file, pushed_other, same_file}
 use Rattle.raft_log_files.specs.FileName.{IsFileSeq, log_file_name, suffixed}
@@ -27,13 +25,12 @@ use Rattle.raft_log_file.specs.declared.writer.LogFileWriter.{LogFileWriter}
 use Rattle.raft_log_file.specs.Writer.{IsAppended, IsOpened, IsReady, IsWriter, MakesRoom, Writes, writer_at}
 use Rattle.raft_log_file.proofs.HeaderLemmas.{length-header}
 use Rattle.raft_log_pipe.specs.declared.file.File.{File}
-use Rattle.raft_log_pipe.specs.declared.pipe.SinglePipe.{SinglePipe}
 use Rattle.raft_log_pipe.specs.Begun.{Changes, IsBegun}
 use Rattle.raft_log_pipe.specs.Placing.{Creates, IsCreated}
-use Rattle.raft_log_pipe.specs.Stored.{IsEnded, IsStored}
-use Rattle.raft_log_pipe.specs.Pipe.{Numbered, id_of, AreConsecutive, HasPath, Holds, HoldsIn, IsLast, IsNamedSo, IsPipe, IsPlain, LeavesIn}
+use Rattle.raft_log_pipe.specs.Stored.{IsStored}
+use Rattle.raft_log_pipe.specs.Pipe.{id_of, AreConsecutive, HasPath, IsLast, IsNamedSo, IsPlain}
 use Rattle.raft_log_pipe.proofs.StoredLemmas.{IsNew, stored_begun}
-use Rattle.raft_log_pipe.proofs.PipeLemmas.{AreSame, Keeps, changes, changes_on, file_beside, file_there, holds_beside, holds_leaves, holds_next, names_kept, stays}
+use Rattle.raft_log_pipe.proofs.PipeLemmas.{Keeps, changes, changes_on, file_beside, file_there, names_kept, stays}
 use Rattle.raft_log_pipe.proofs.ChangeLemmas.{appended_changes, synced_writer}
 
 -- ---- names

@@ -1,19 +1,18 @@
 -- What calls on one queue leave of the others.
-use Rattle.std.proofs.Common.{◌≡◌, ◌≢◌, ◌⊎◌, inl, inr, ⊎_elim, ℕ, ◌+◌, ◌<◌, ◌≤◌, Bool, true, false, cond, nat_lt, List, [], ◌∷◌, ◌++◌, length, get_or, Option, Some, None, refl, sym, ap, subst, ◌∙◌, arith}
+use Rattle.std.proofs.Common.{◌≡◌, ◌≢◌, inl, inr, ⊎_elim, ℕ, ◌<◌, Bool, true, false, cond, List, [], ◌∷◌, ◌++◌, length, get_or, Some, None, refl, sym, ap, subst, ◌∙◌, arith}
 use Rattle.std.specs.Prelude.{Err}
 use Rattle.std.specs.List.{AllByRecursion}
 use Rattle.std.proofs.lemmas.Bool.{ltb-true}
 use lib.Pointwise.{bytes_decides}
 use Rattle.raft_log_records.specs.declared.file_id.FileId.{FileId}
 use Rattle.raft_log_records.specs.declared.file_id.LogQueue.{LogQueue}
-use Rattle.raft_log_file.specs.Laws.{Batch}
 use Rattle.raft_log_disk.specs.declared.fault.IoFault.{IoFault}
 use Rattle.raft_log_disk.specs.Text.{Text, same_text}
 use Rattle.raft_log_disk.specs.Name.{log_file_of}
-use Rattle.raft_log_disk.specs.Disk.{Disk, FileState, IsIn, IsNamed, after_create, are_named, fd_of, no_bytes}
+use Rattle.raft_log_disk.specs.Disk.{Disk, FileState, IsIn, IsNamed, are_named, fd_of, no_bytes}
 use Rattle.raft_log_disk.proofs.DiskLemmas.{other_file}
 use Rattle.raft_log_disk.proofs.NamedLemmas.{in_other, named_first}
-use Rattle.raft_log_files.specs.FileName.{IsFileSeq, log_file_name}
+use Rattle.raft_log_files.specs.FileName.{log_file_name}
 use Rattle.raft_log_pipe.specs.declared.file.File.{File}
 use Rattle.raft_log_pipe.specs.declared.file.ReservedFile.{ReservedFile}
 use Rattle.raft_log_pipe.specs.declared.pipe.SinglePipe.{SinglePipe}
@@ -21,16 +20,15 @@ use Rattle.raft_log_pipe.specs.Alone.{AreLast, IsAlone, IsOnce, Names, StandsAt,
 use Rattle.raft_log_pipe.specs.Begun.{Changes}
 use Rattle.raft_log_pipe.specs.Blocks.{files_of}
 use Rattle.raft_log_pipe.specs.Others.{IsOther, KeepsOthers}
-use Rattle.raft_log_pipe.specs.Pipe.{Numbered, numbered, id_of, AreOlder, HoldsIn, Holds, IsBlank, IsNamedSo, IsPipe}
+use Rattle.raft_log_pipe.specs.Pipe.{Numbered, id_of, Holds, IsNamedSo, IsPipe}
 use Rattle.raft_log_pipe.specs.Placing.{IsCreated}
 use Rattle.raft_log_pipe.specs.Purging.{KeepsFrom}
-use Rattle.raft_log_pipe.specs.Stored.{IsEnded, IsStored}
 use Rattle.raft_log_pipe.proofs.AloneLemmas.{found_in, in_either, in_first, never_some}
 use Rattle.raft_log_pipe.specs.Reserved.{IsReserved, reserved_path}
 use Rattle.raft_log_pipe.proofs.KeptLemmas.{holds_kept, names_still, writer_same}
 use Rattle.raft_log_pipe.proofs.ReservedLemmas.{reserved_kept, reserved_no_log, reserved_none, reserved_own, says_none}
 use Rattle.raft_log_pipe.proofs.NextLemmas.{IsMade, has_path_says, made_alone, path_says, some_is}
-use Rattle.raft_log_pipe.proofs.PipeLemmas.{file_beside, stays}
+use Rattle.raft_log_pipe.proofs.PipeLemmas.{file_beside}
 use Rattle.raft_log_pipe.proofs.PurgeLemmas.{is_found}
 
 -- ---- names that are each of one file

@@ -1,5 +1,5 @@
 -- A reserved file that goes on: its header is written, and then it gets the next name.
-use Rattle.std.proofs.Common.{◌≡◌, ◌≢◌, ◌⊎◌, inl, inr, ⊎_elim, ℕ, ◌+◌, ◌<◌, ◌≤◌, Bool, true, false, List, [], ◌∷◌, ◌++◌, ◌-◌, length, get_or, take, drop, map, Option, Some, None, refl, sym, ap, subst, ◌∙◌, arith, length-append}
+use Rattle.std.proofs.Common.{◌≡◌, ◌≢◌, ◌⊎◌, inl, inr, ℕ, ◌+◌, ◌<◌, ◌≤◌, Bool, true, List, [], ◌∷◌, ◌++◌, ◌-◌, length, get_or, take, drop, map, Option, Some, None, refl, sym, ap, subst, ◌∙◌, arith, length-append}
 use Rattle.std.specs.Prelude.{Result, Ok, Err, String, Vec, IfOk, IsTrue, is_some}
 use Rattle.std.proofs.lemmas.Bool.{ltb-true}
 use Rattle.std.specs.String.{string_bytes}
@@ -11,7 +11,7 @@ use Rattle.raft_log_records.specs.declared.file_id.LogQueue.{LogQueue}
 use Rattle.raft_log_records.specs.declared.file_id.LogQueue.TheVariants.{Append}
 use Rattle.raft_log_disk.specs.declared.fault.IoFault.{IoFault}
 use Rattle.raft_log_disk.specs.declared.format.LogFileFormat.{LogFileFormat}
-use Rattle.raft_log_disk.specs.Text.{Text, same_text}
+use Rattle.raft_log_disk.specs.Text.{Text}
 use Rattle.raft_log_disk.specs.Name.{log_file_of}
 use Rattle.raft_log_disk.specs.Disk.{Disk, FileState, HasDirectory, IsIn, IsNamed, IsNoFile, IsNoMove, Renames, after_sync, after_write, fd_of, moved, put, renamed}
 use Rattle.raft_log_disk.specs.Format.{spelled_header}
@@ -27,9 +27,9 @@ use Rattle.raft_log_pipe.specs.declared.file.ReservedFile.{ReservedFile}
 use Rattle.raft_log_pipe.specs.declared.pipe.SinglePipe.{SinglePipe}
 use Rattle.raft_log_pipe.specs.Alone.{directories_of_pipe, path_in}
 use Rattle.raft_log_pipe.specs.Begun.{Changes, IsBegun}
-use Rattle.raft_log_pipe.specs.Next.{GoesOn, IsBehind, KeepsAllLogs, KeepsLogs, TakesFirst, next_in}
+use Rattle.raft_log_pipe.specs.Next.{GoesOn, IsBehind, KeepsAllLogs, TakesFirst, next_in}
 use Rattle.raft_log_pipe.specs.Others.{IsOther, KeepsOthers}
-use Rattle.raft_log_pipe.specs.Pipe.{id_of, HasPath, IsPipe, IsPlain}
+use Rattle.raft_log_pipe.specs.Pipe.{id_of, IsPipe, IsPlain}
 use Rattle.raft_log_pipe.specs.Purging.{AreLastOf}
 use Rattle.raft_log_pipe.specs.Reserved.{AreReserved, IsReserved, IsReservedPath, is_before, reserved_path}
 use Rattle.raft_log_pipe.specs.Stored.{IsStored}
@@ -39,9 +39,9 @@ use Rattle.raft_log_pipe.proofs.BehindLemmas.{stored_none}
 use Rattle.raft_log_pipe.proofs.KeptLemmas.{writer_same}
 use Rattle.raft_log_pipe.proofs.NextLemmas.{header_short, path_at}
 use Rattle.raft_log_pipe.proofs.TakenLemmas.{named_there}
-use Rattle.raft_log_pipe.proofs.OthersLemmas.{below_next_name, found_there, one_path, others_on}
+use Rattle.raft_log_pipe.proofs.OthersLemmas.{below_next_name, found_there, one_path}
 use Rattle.raft_log_pipe.proofs.PipeLemmas.{file_beside, file_there}
-use Rattle.raft_log_pipe.proofs.ReservedLemmas.{held_path, not_same, one_kept, one_number, reserved_no_log, reserved_on, reserved_says, says_none}
+use Rattle.raft_log_pipe.proofs.ReservedLemmas.{held_path, not_same, one_kept, one_number, reserved_no_log, reserved_says, says_none}
 
 -- ---- the next name is free
 

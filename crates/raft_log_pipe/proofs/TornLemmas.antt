@@ -1,7 +1,6 @@
 -- At most the newest file of a queue is torn behind a refused call.
-use Rattle.std.proofs.Common.{◌≡◌, ◌⊎◌, inl, inr, ⊎_elim, ℕ, ◌+◌, true, false, List, [], ◌∷◌, ◌++◌, length, take, drop, refl, sym, ap, subst, ◌∙◌, arith, append_assoc, get_or, length-append}
-use Rattle.std.specs.Prelude.{MatchResult, Result, Ok, Err, Vec}
-use Rattle.std.specs.declared.alloc.Global.{Global}
+use Rattle.std.proofs.Common.{◌≡◌, ◌⊎◌, inl, inr, ⊎_elim, ℕ, true, List, [], ◌∷◌, ◌++◌, length, take, drop, sym, ap, subst, ◌∙◌, arith, append_assoc, length-append}
+use Rattle.std.specs.Prelude.{MatchResult, Result, Ok, Err}
 use Rattle.std.proofs.lemmas.List.{take-append-drop}
 use Rattle.std.proofs.Math.Seq.{take-nil}
 use Rattle.raft_log_records.specs.declared.file_id.FileId.{FileId}
@@ -15,8 +14,6 @@ use Rattle.raft_log_disk.specs.declared.format.LogFileFormat.{LogFileFormat}
 use Rattle.raft_log_disk.specs.Chance.{AreWritten, IsHeaderWritten}
 use Rattle.raft_log_disk.specs.Disk.{Disk, FileState, IsIn, no_bytes}
 use Rattle.raft_log_disk.specs.Format.{IsSpellable, header_at, header_len, spelled_header}
-use Rattle.raft_log_disk.proofs.DiskLemmas.{same_file}
-use Rattle.raft_log_files.specs.FileName.{IsFileSeq, log_file_name}
 use Rattle.raft_log_file.specs.declared.writer.LogFileWriter.{LogFileWriter}
 use Rattle.raft_log_file.specs.Laws.{Batch, file_text, spelled_batches}
 use Rattle.raft_log_file.specs.Unsynced.{IsUnsynced}
@@ -24,19 +21,14 @@ use Rattle.raft_log_file.specs.Writer.{IsAppended, IsOpened, IsReady, MakesRoom,
 use Rattle.raft_log_file.proofs.HeaderLemmas.{length-header}
 use Rattle.raft_log_file.proofs.LawLemmas.{header_read}
 use Rattle.raft_log_file.proofs.UnsyncedLemmas.{header_some, image_front}
-use Rattle.raft_log_pipe.specs.declared.file.File.{File}
 use Rattle.raft_log_pipe.specs.declared.pipe.SinglePipe.{SinglePipe}
-use Rattle.raft_log_pipe.specs.Alone.{AreLast, IsAlone, IsMadeIn, Names, directories_of_pipe}
-use Rattle.raft_log_pipe.specs.Begun.{Changes, IsBegun}
+use Rattle.raft_log_pipe.specs.Alone.{AreLast, IsAlone, Names, directories_of_pipe}
 use Rattle.raft_log_pipe.specs.Blocks.{files_of}
 use Rattle.raft_log_pipe.specs.Pipe.{Holds, IsPipe, IsPlain, Numbered, id_of}
-use Rattle.raft_log_pipe.specs.Placing.{Creates}
-use Rattle.raft_log_pipe.specs.Stored.{IsEnded, IsStored}
+use Rattle.raft_log_pipe.specs.Stored.{IsStored}
 use Rattle.raft_log_pipe.specs.Torn.{IsTornAtEnd, IsUnaligned, TearsAtEnd}
-use Rattle.raft_log_pipe.proofs.AloneLemmas.{in_either, with_older}
 use Rattle.raft_log_pipe.proofs.ChangeLemmas.{unput_last, with_writer}
-use Rattle.raft_log_pipe.proofs.NextLemmas.{begun_changes, begun_stored, new_empty}
-use Rattle.raft_log_pipe.proofs.PipeLemmas.{file_there, names_kept, olders_next, olders_on, same_beside}
+use Rattle.raft_log_pipe.proofs.PipeLemmas.{file_there, names_kept, olders_on, same_beside}
 use Rattle.raft_log_pipe.proofs.StoredLemmas.{stored_within}
 
 -- ---- headers

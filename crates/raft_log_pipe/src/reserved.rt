@@ -32,11 +32,7 @@ pub(crate) fn reserved_path(
 
 impl SinglePipe {
     /// Whether a reserved file of the pipe has this number and stands in this directory.
-    fn is_reserved<F: FileSystem>(
-        &self,
-        files: &F,
-        file: ReservedFile,
-    ) -> Result<bool, AllocError>
+    fn is_reserved<F: FileSystem>(&self, files: &F, file: ReservedFile) -> Result<bool, AllocError>
         ensures yes { IfOk result (λ b. IsTrue b → IsReserved self.now.queue (directories_of_pipe self.now) (F.disk files.now) file) }
         ensures no { IfOk result (λ b. IsReserved self.now.queue (directories_of_pipe self.now) (F.disk files.now) file → IsTrue b) }
     {

@@ -1,4 +1,4 @@
-use Rattle.std.proofs.Common.{List, map, refl, sym, ap, subst, ◌∙◌}
+use Rattle.std.proofs.Common.{List, map, sym, subst, ◌∙◌}
 use Rattle.std.specs.Prelude.{String, Ok, Err}
 use Rattle.std.specs.String.{string_bytes}
 use Rattle.std.specs.declared.alloc.Global.{Global}

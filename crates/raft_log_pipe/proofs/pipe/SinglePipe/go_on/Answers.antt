@@ -1,6 +1,4 @@
 use Rattle.std.proofs.Common.{[], sym, subst}
-use Rattle.std.specs.Prelude.{Ok, Err, drop}
-use Rattle.raft_log_disk.specs.Disk.{Disk}
 use Rattle.raft_log_disk.proofs.CauseLemmas.{at_err}
 use Rattle.raft_log_pipe.specs.Alone.{IsAlone, directories_of_pipe}
 use Rattle.raft_log_pipe.specs.Pipe.{Holds, Numbered, id_of}
