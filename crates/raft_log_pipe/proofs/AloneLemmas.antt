@@ -242,6 +242,7 @@ with_older p older = record {
   active = p.active;
   writer = p.writer;
   reserved = p.reserved;
+  capacity = p.capacity;
 }
 
 pub last_named : (p : SinglePipe) (g : Disk) (f : File) → AreLast g.names (directories_of_pipe p) p.queue (files_of p ++ f ∷ []) → IsNamedSo g (id_of p.queue f.seq) f.handle.0

@@ -223,6 +223,7 @@ with_next p older f w reserved = record {
   active = f;
   writer = w;
   reserved = reserved;
+  capacity = p.capacity;
 }
 
 module _ (p : SinglePipe) (d e : Disk) (older : Vec File Global) (reserved : Vec ReservedFile Global) (f : File) (w : LogFileWriter) (named : IsNamed d) (number : IsFileSeq (p.active.seq + 1)) (grown : older.items ≡ files_of p) (b : IsBehind p d e f) where

@@ -132,6 +132,7 @@ with_writer p w = record {
   active = p.active;
   writer = w;
   reserved = p.reserved;
+  capacity = p.capacity;
 }
 
 pub pipe_on : (p : SinglePipe) (w : LogFileWriter) (d e : Disk) → IsPipe p d → IsWriter w e → w.fd ≡ p.writer.fd → Changes d e p.writer.fd.0 → IsPipe (with_writer p w) e

@@ -27,6 +27,7 @@ use Rattle.raft_log_pipe.specs.declared.file.ReservedFile.{ReservedFile}
 use Rattle.raft_log_pipe.specs.declared.pipe.SinglePipe.{SinglePipe}
 use Rattle.raft_log_pipe.specs.Alone.{directories_of_pipe, path_in}
 use Rattle.raft_log_pipe.specs.Begun.{Changes, IsBegun}
+use Rattle.raft_log_pipe.specs.Kept.{with_reserved}
 use Rattle.raft_log_pipe.specs.Next.{GoesOn, IsBehind, KeepsAllLogs, TakesFirst, next_in}
 use Rattle.raft_log_pipe.specs.Others.{IsOther, KeepsOthers}
 use Rattle.raft_log_pipe.specs.Pipe.{id_of, IsPipe, IsPlain}
@@ -367,3 +368,21 @@ all_reserved r queue directories d (f ∷ fs) x some first before rest =
     let whole : take (length (f ∷ fs) - 1) fs ≡ fs = take_all (length (f ∷ fs) - 1) fs (omega arith) in
     ok_more r (λ b. IsTrue b → AreReserved queue directories d (take (length (f ∷ fs) - 1) fs)) (λ b. IsTrue b → AreReserved queue directories d (f ∷ fs))
     (λ b tells yes. let all = subst (AreReserved queue directories d) whole (tells yes) in (first, rising queue directories d f fs (ap (is_before f) (sym whole) ∙ before) all, all)) rest
+
+-- ---- the pipe with other reserved files
+
+pub pipe_with : (p : SinglePipe) (d : Disk) (rs : Vec ReservedFile Global) (capacity : ℕ) → IsPipe p d → AreReserved p.queue (directories_of_pipe p) d rs.items → IsPipe (with_reserved p rs capacity) d
+pipe_with p d rs capacity pipe all = record {
+  writer = pipe.writer;
+  handle = pipe.handle;
+  plain = pipe.plain;
+  paths = pipe.paths;
+  numbers = pipe.numbers;
+  last = pipe.last;
+  named = pipe.named;
+  placed = pipe.placed;
+  there = pipe.there;
+  apart = pipe.apart;
+  olders = pipe.olders;
+  reserved = all;
+}

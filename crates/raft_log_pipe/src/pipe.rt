@@ -33,6 +33,9 @@ pub struct SinglePipe {
     pub(crate) writer: LogFileWriter,
     /// Files that are kept for reuse under names of their own, of rising numbers.
     pub(crate) reserved: Vec<ReservedFile>,
+    /// How many files there are at most, those that are kept for reuse and all others. With none of
+    /// these none is kept.
+    pub(crate) capacity: u64,
 }
 
 impl SinglePipe {

@@ -1,6 +1,6 @@
 //! Files that are kept for reuse.
 
-ghost use Rattle.std.specs.Prelude.{◌≡◌, ◌↔◌, ◌++◌, ◌∷◌, string_bytes, IfErr, IfOk, IsTrue, OnOk, OnErr};
+ghost use Rattle.std.specs.Prelude.{◌≡◌, ◌<◌, ◌↔◌, [], ◌++◌, ◌∷◌, string_bytes, IfErr, IfOk, IsTrue, OnOk, OnErr};
 ghost use Rattle.raft_log_files.specs.FileName.{IsFileSeq, reserved_name};
 ghost use Rattle.raft_log_files.specs.declared.error.Error.TheVariants.{Memory};
 ghost use Rattle.raft_log_pipe.specs.Alone.{directories_of_pipe};
@@ -75,22 +75,32 @@ impl SinglePipe {
     }
 
     /// Takes over the reserved files that an opening found: rotations take the first of them. The
-    /// pipe keeps none of them unless each is there.
+    /// pipe keeps none of them unless each is there. From then on it has as many files as the
+    /// capacity says, those that it keeps and all others; with none it keeps none.
     pub fn keep_reserved<F: FileSystem>(
         &mut self,
         files: &F,
         found: Vec<ReservedFile>,
+        capacity: u64,
     ) -> Result<(), Error>
         requires { IsPipe self.old (F.disk files.now) }
         ensures pipe { IsPipe self.new (F.disk files.now) }
-        ensures same { self.new ≡ with_reserved self.old self.new.reserved }
-        ensures ok { OnOk result (AreReserved self.old.queue (directories_of_pipe self.old) (F.disk files.now) found.items → self.new.reserved.items ≡ found.items) }
+        ensures same { self.new ≡ with_reserved self.old self.new.reserved self.new.capacity }
+        ensures capacity { OnOk result (self.new.capacity ≡ capacity) }
+        ensures none { OnOk result (capacity ≡ 0 → self.new.reserved.items ≡ []) }
+        ensures ok { OnOk result (0 < capacity → AreReserved self.old.queue (directories_of_pipe self.old) (F.disk files.now) found.items → self.new.reserved.items ≡ found.items) }
         ensures err { OnErr result (self.new ≡ self.old) }
         ensures cause { IfErr result (λ e. e ≡ Memory) }
     {
+        if capacity == 0 {
+            self.reserved.clear();
+            self.capacity = 0;
+            return Ok(());
+        }
         if self.are_reserved(files, &found)? {
             self.reserved = found;
         }
+        self.capacity = capacity;
         Ok(())
     }
 }

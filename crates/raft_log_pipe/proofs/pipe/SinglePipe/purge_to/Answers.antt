@@ -30,7 +30,7 @@ loop-gone-init g c =
       queue = refl;
       paths = refl;
       reserved = refl;
-      set = (refl, refl);
+      set = (refl, refl, refl);
       holds = holds_all c.args.self.now (g.F.FileSystem.disk c.args.files.now) (g.F.FileSystem.disk c.args.files.now) c.requires.pipe refl;
       keeps = same_keeps c.args.self.now.queue (first_of c.args.self.now) (g.F.FileSystem.disk c.args.files.now) (g.F.FileSystem.disk c.args.files.now) refl;
       rest = (0, refl);
@@ -71,7 +71,7 @@ loop-gone-preserved g c =
       queue = c.in_ok-purge_first.ensures.same.1 ∙ c.loop-gone.invariant.queue;
       paths = c.in_ok-purge_first.ensures.same.2 ∙ c.loop-gone.invariant.paths;
       reserved = c.in_ok-purge_first.ensures.reserved ∙ c.loop-gone.invariant.reserved;
-      set = (c.in_ok-purge_first.ensures.set.0 ∙ c.loop-gone.invariant.set.0, c.in_ok-purge_first.ensures.set.1 ∙ c.loop-gone.invariant.set.1);
+      set = (c.in_ok-purge_first.ensures.set.0 ∙ c.loop-gone.invariant.set.0, c.in_ok-purge_first.ensures.set.1 ∙ c.loop-gone.invariant.set.1, c.in_ok-purge_first.ensures.set.2 ∙ c.loop-gone.invariant.set.2);
       holds = rest_on c.args.self.now c.loop-gone.self c.purge_first.new.self (g.F.FileSystem.disk c.args.files.now) (g.F.FileSystem.disk c.loop-gone.files) (g.F.FileSystem.disk c.purge_first.new.files) le
           c.loop-gone.invariant.holds c.in_ok-purge_first.ensures.holds;
       keeps = goes_on c.args.self.now c.loop-gone.self c.purge_first.new.self (g.F.FileSystem.disk c.args.files.now) (g.F.FileSystem.disk c.loop-gone.files) (g.F.FileSystem.disk c.purge_first.new.files)
