@@ -31,14 +31,14 @@ pipe_on p q d e same set paths names = record { set = set; paths = paths; alone 
 
 pub pipe_then : (p q r : SinglePipe) (d e f : Disk) → KeepsPipe p d q e → KeepsPipe q e r f → KeepsPipe p d r f
 pipe_then p q r d e f one two = record {
-  set = (two.set.0 ∙ one.set.0, two.set.1 ∙ one.set.1);
+  set = (two.set.0 ∙ one.set.0, two.set.1 ∙ one.set.1, two.set.2 ∙ one.set.2);
   paths = two.paths ∙ one.paths;
   alone = λ alone. two.alone (one.alone alone);
 }
 
 pipe_then_left : (p q r : SinglePipe) (d e f : Disk) → KeepsPipe p d q e → LeavesPipe q e r f → LeavesPipe p d r f
 pipe_then_left p q r d e f one two = record {
-  set = (two.set.0 ∙ one.set.0, two.set.1 ∙ one.set.1);
+  set = (two.set.0 ∙ one.set.0, two.set.1 ∙ one.set.1, two.set.2 ∙ one.set.2);
   paths = two.paths ∙ one.paths;
   nearly = λ alone. two.nearly (one.alone alone);
   torn = λ alone. two.torn (one.alone alone);

@@ -219,7 +219,7 @@ refused_stands d e p q content reads left = record {
 
 stands_behind : (p q r s : SinglePipe) (d e f : Disk) → KeepsPipe p d q e → StandsFor q e r f s → StandsFor p d r f s
 stands_behind p q r s d e f one two = record {
-  set = (two.set.0 ∙ one.set.0, two.set.1 ∙ one.set.1);
+  set = (two.set.0 ∙ one.set.0, two.set.1 ∙ one.set.1, two.set.2 ∙ one.set.2);
   paths = (two.paths.0 ∙ one.paths, two.paths.1 ∙ one.paths);
   nearly = λ alone. two.nearly (one.alone alone);
   torn = λ alone. two.torn (one.alone alone);

@@ -243,7 +243,7 @@ pub set_then : (p q r : DualPipes) → KeepSettings p q → KeepSettings q r →
 set_then p q r one two = (settings_then p.append q.append r.append one.0 two.0, settings_then p.rewrite q.rewrite r.rewrite one.1 two.1)
   where
     settings_then : (a b c : SinglePipe) → KeepsSettings a b → KeepsSettings b c → KeepsSettings a c
-    settings_then a b c one two = (two.0 ∙ one.0, two.1 ∙ one.1)
+    settings_then a b c one two = (two.0 ∙ one.0, two.1 ∙ one.1, two.2 ∙ one.2)
 
 -- ---- what a crash leaves, by accounts
 

@@ -74,6 +74,33 @@ impl SinglePipe {
         }
     }
 
+    /// Keeps no file for reuse.
+    fn keep_none(&mut self)
+        ensures same { self.new ≡ with_reserved self.old self.new.reserved 0 }
+        ensures none { self.new.reserved.items ≡ [] }
+    {
+        self.reserved.clear();
+        self.capacity = 0;
+    }
+
+    /// Takes over the reserved files that were found, if each is there.
+    fn take_over<F: FileSystem>(
+        &mut self,
+        files: &F,
+        found: Vec<ReservedFile>,
+    ) -> Result<(), AllocError>
+        requires { IsPipe self.old (F.disk files.now) }
+        ensures pipe { IsPipe self.new (F.disk files.now) }
+        ensures same { self.new ≡ with_reserved self.old self.new.reserved self.old.capacity }
+        ensures ok { OnOk result (AreReserved self.old.queue (directories_of_pipe self.old) (F.disk files.now) found.items → self.new.reserved.items ≡ found.items) }
+        ensures err { OnErr result (self.new ≡ self.old) }
+    {
+        if self.are_reserved(files, &found)? {
+            self.reserved = found;
+        }
+        Ok(())
+    }
+
     /// Takes over the reserved files that an opening found: rotations take the first of them. The
     /// pipe keeps none of them unless each is there. From then on it has as many files as the
     /// capacity says, those that it keeps and all others; with none it keeps none.
@@ -93,13 +120,10 @@ impl SinglePipe {
         ensures cause { IfErr result (λ e. e ≡ Memory) }
     {
         if capacity == 0 {
-            self.reserved.clear();
-            self.capacity = 0;
+            self.keep_none();
             return Ok(());
         }
-        if self.are_reserved(files, &found)? {
-            self.reserved = found;
-        }
+        self.take_over(files, found)?;
         self.capacity = capacity;
         Ok(())
     }

@@ -1,6 +1,6 @@
 //! Two pipes, and what they tell of their files.
 
-ghost use Rattle.std.specs.Prelude.{◌≡◌, ◌+◌, ◌-◌, ◌*◌, ◌/◌, ◌≤◌, ◌^◌, min, length, IfErr, OnOk};
+ghost use Rattle.std.specs.Prelude.{◌≡◌, ◌<◌, [], ◌+◌, ◌-◌, ◌*◌, ◌/◌, ◌≤◌, ◌^◌, min, length, IfErr, OnOk};
 ghost use Rattle.raft_log_files.specs.declared.error.Error.TheVariants.{Memory};
 ghost use Rattle.raft_log_records.specs.declared.file_id.LogQueue.TheVariants.{Append, Rewrite};
 ghost use Rattle.raft_log_pipe.specs.Alone.{directories_of_pipe, main_of};
@@ -37,20 +37,24 @@ impl DualPipes {
     }
 
     /// Takes over the reserved files that an opening found, for the append queue: its rotations take
-    /// the first of them. It keeps none of them unless each is there.
+    /// the first of them. It keeps none of them unless each is there, and none where the capacity is
+    /// 0: so many files does the queue have then, those that it keeps and all others.
     pub fn keep_reserved<F: FileSystem>(
         &mut self,
         files: &F,
         found: Vec<ReservedFile>,
+        capacity: u64,
     ) -> Result<(), Error>
         requires { ArePipes self.old (F.disk files.now) }
         ensures pipes { ArePipes self.new (F.disk files.now) }
-        ensures append { self.new.append ≡ with_reserved self.old.append self.new.append.reserved }
+        ensures append { self.new.append ≡ with_reserved self.old.append self.new.append.reserved self.new.append.capacity }
+        ensures capacity { OnOk result (self.new.append.capacity ≡ capacity) }
+        ensures none { OnOk result (capacity ≡ 0 → self.new.append.reserved.items ≡ []) }
         ensures rewrite { self.new.rewrite ≡ self.old.rewrite }
-        ensures ok { OnOk result (AreReserved self.old.append.queue (directories_of_pipe self.old.append) (F.disk files.now) found.items → self.new.append.reserved.items ≡ found.items) }
+        ensures ok { OnOk result (0 < capacity → AreReserved self.old.append.queue (directories_of_pipe self.old.append) (F.disk files.now) found.items → self.new.append.reserved.items ≡ found.items) }
         ensures cause { IfErr result (λ e. e ≡ Memory) }
     {
-        self.append.keep_reserved(files, found)
+        self.append.keep_reserved(files, found, capacity)
     }
 
     /// The main directory of the append queue's files.

@@ -1,5 +1,6 @@
 -- Pipes that were opened, with the reserved files that were found.
 use Rattle.std.proofs.Common.{◌≡◌, List, refl, sym, ap, subst, ◌∙◌}
+use Rattle.std.specs.Prelude.{Result, Ok, Err, OnOk}
 use Rattle.raft_log_records.specs.declared.file_id.LogQueue.{LogQueue}
 use Rattle.raft_log_records.specs.declared.file_id.LogQueue.TheVariants.{Append, Rewrite}
 use Rattle.raft_log_disk.specs.Disk.{Disk}
@@ -14,7 +15,7 @@ use Rattle.raft_log_recovery.specs.Opening.{IsPipeWith}
 use Rattle.raft_log_recovery.specs.Queue.{directories_in, names_in}
 use Rattle.raft_log_recovery.specs.Replay.{Placed}
 
-module _ (builder : DualPipesBuilder) (old new : Disk) (p q : DualPipes) (append : q.append ≡ with_reserved p.append q.append.reserved) (rewrite : q.rewrite ≡ p.rewrite) where
+module _ (builder : DualPipesBuilder) (old new : Disk) (p q : DualPipes) (append : q.append ≡ with_reserved p.append q.append.reserved q.append.capacity) (rewrite : q.rewrite ≡ p.rewrite) where
   pub opened_as : IsPipe q.append new → AreOpened builder old new p → AreOpened builder old new q
   opened_as usable o = record {
     append = subst (IsOpened builder Append old new) (sym append) (record {
@@ -47,3 +48,8 @@ module _ (builder : DualPipesBuilder) (old new : Disk) (p q : DualPipes) (append
   pub holes_as : HaveFewHoles builder old new p → HaveFewHoles builder old new q
   holes_as few Append = λ hole. few Append (subst (λ (x : SinglePipe). HasHole x new) append hole)
   holes_as few Rewrite = λ hole. few Rewrite (subst (λ (x : SinglePipe). HasHole x new) rewrite hole)
+
+-- three facts of a result, as one
+pub ok_three : {T E : Type 0} (r : Result T E) (A B C D : Type 0) → (A → B → C → D) → OnOk r A → OnOk r B → OnOk r C → OnOk r D
+ok_three (Ok x) A B C D f a b c = f a b c
+ok_three (Err e) A B C D f a b c = tt

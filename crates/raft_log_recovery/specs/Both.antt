@@ -1,5 +1,5 @@
 -- Both queues, opened one after the other: the rewrite queue first, unless the append queue has no files.
-use Rattle.std.specs.Prelude.{◌≡◌, ◌⊎◌, List, ◌++◌, map, Result}
+use Rattle.std.specs.Prelude.{◌≡◌, ◌⊎◌, ℕ, ◌<◌, List, [], ◌++◌, map, Result}
 use Rattle.raft_log_records.specs.declared.file_id.LogQueue.{LogQueue}
 use Rattle.raft_log_records.specs.declared.file_id.LogQueue.TheVariants.{Append, Rewrite}
 use Rattle.raft_log_disk.specs.Cause.{Meter}
@@ -7,11 +7,13 @@ use Rattle.raft_log_disk.specs.Disk.{Disk}
 use Rattle.raft_log_disk.specs.Text.{Text}
 use Rattle.raft_log_files.specs.declared.recovery.RecoveryMode.{RecoveryMode}
 use Rattle.raft_log_files.specs.declared.error.Error.{Error}
+use Rattle.raft_log_files.specs.Settings.{recycle_capacity_of, settings_of}
 use Rattle.raft_log_pipe.specs.declared.pipe.SinglePipe.{SinglePipe}
 use Rattle.raft_log_pipe.specs.Alone.{IsAlone, IsOnce, directories_of_pipe}
 use Rattle.raft_log_pipe.specs.declared.file.ReservedFile.{ReservedFile}
 use Rattle.raft_log_pipe.specs.Others.{KeepsOthers}
 use Rattle.raft_log_pipe.specs.Pipe.{IsPipe}
+use Rattle.raft_log_pipe.specs.Reserved.{AreReserved}
 use Rattle.raft_log_pipes.specs.declared.pipes.DualPipes.{DualPipes}
 use Rattle.raft_log_pipes.specs.Pipes.{other_queue, pipe_of}
 use Rattle.raft_log_recovery.specs.declared.builder.DualPipesBuilder.{DualPipesBuilder}
@@ -121,3 +123,13 @@ HaveFewHoles builder old new p = (queue : LogQueue) → HasFewHoles builder queu
 -- those of these names
 abbrev pub as_reserved : List FileName → List ReservedFile
 as_reserved names = map (λ f. record { seq = f.seq; path_id = f.path_id }) names
+
+-- how many files the append queue has at most, those that are kept for reuse and all others
+abbrev pub capacity_in : DualPipesBuilder → ℕ
+capacity_in builder = recycle_capacity_of (settings_of builder.config)
+
+-- a pipe of these directories has this capacity. With none it keeps none, and else the reserved files that were found, if each is there
+pub record KeepsFound (builder : DualPipesBuilder) (queue : LogQueue) (directories : List Text) (d : Disk) (p : SinglePipe) : Type 0 where
+  pub capacity : p.capacity ≡ capacity_in builder
+  pub none : capacity_in builder ≡ 0 → p.reserved.items ≡ []
+  pub found : 0 < capacity_in builder → AreReserved queue directories d (as_reserved builder.reserved_file_names.items) → p.reserved.items ≡ as_reserved builder.reserved_file_names.items

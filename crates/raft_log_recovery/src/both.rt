@@ -8,11 +8,10 @@ ghost use Rattle.raft_log_files.specs.declared.error.Error.TheVariants.{Corrupti
 ghost use Rattle.raft_log_pipe.specs.Alone.{directories_of_pipe};
 ghost use Rattle.raft_log_pipe.specs.Kept.{with_reserved};
 ghost use Rattle.raft_log_pipe.specs.Others.{KeepsOthers};
-ghost use Rattle.raft_log_pipe.specs.Reserved.{AreReserved};
 ghost use Rattle.raft_log_pipes.specs.Pipes.{ArePipes, other_queue, pipe_of};
 ghost use Rattle.raft_log_records.specs.declared.file_id.LogQueue.{LogQueue};
 ghost use Rattle.raft_log_records.specs.declared.file_id.LogQueue.TheVariants.{Append, Rewrite};
-ghost use Rattle.raft_log_recovery.specs.Both.{AreOpened, ArePipesWith, AreTaken, CantBeOpened, HasFewHoles, HaveFewHoles, IsEitherFault, IsFaultOf, IsFoundBy, IsOpened, LeavesBoth, LeavesQueue, as_reserved};
+ghost use Rattle.raft_log_recovery.specs.Both.{AreOpened, ArePipesWith, AreTaken, CantBeOpened, HasFewHoles, HaveFewHoles, IsEitherFault, IsFaultOf, IsFoundBy, IsOpened, KeepsFound, LeavesBoth, LeavesQueue, as_reserved};
 ghost use Rattle.raft_log_recovery.specs.Opening.{IsPipeWith};
 ghost use Rattle.raft_log_recovery.specs.Queue.{ChangesAtMost, directories_in, names_in};
 ghost use Rattle.raft_log_recovery.specs.declared.scan.FileKind.TheVariants.{Log};
@@ -136,18 +135,19 @@ impl DualPipesBuilder {
         }
     }
 
-    /// Hands the reserved files that `scan` found over to the append queue's pipe.
+    /// Hands the reserved files that `scan` found over to the append queue's pipe, with the capacity
+    /// that the settings say.
     fn with_found<F: FileSystem>(&self, files: &F, pipes: &mut DualPipes) -> Result<(), Error>
         requires { ArePipes pipes.old (F.disk files.now) }
         ensures pipes { ArePipes pipes.new (F.disk files.now) }
-        ensures append { pipes.new.append ≡ with_reserved pipes.old.append pipes.new.append.reserved }
+        ensures append { pipes.new.append ≡ with_reserved pipes.old.append pipes.new.append.reserved pipes.new.append.capacity }
         ensures rewrite { pipes.new.rewrite ≡ pipes.old.rewrite }
-        ensures reserved { OnOk result (AreReserved pipes.old.append.queue (directories_of_pipe pipes.old.append) (F.disk files.now) (as_reserved self.now.reserved_file_names.items)
-            → pipes.new.append.reserved.items ≡ as_reserved self.now.reserved_file_names.items) }
+        ensures reserved { OnOk result (KeepsFound self.now pipes.old.append.queue (directories_of_pipe pipes.old.append) (F.disk files.now) pipes.new.append) }
         ensures cause { IfErr result (λ e. e ≡ Memory) }
     {
         let found = reserved_of(self.alloc, &self.reserved_file_names)?;
-        pipes.keep_reserved(files, found)
+        let capacity = self.config.recycle_capacity();
+        pipes.keep_reserved(files, found, capacity)
     }
 
     /// Recovers the files of both queues that `scan` found in this way, and opens the pipes over them
@@ -170,7 +170,7 @@ impl DualPipesBuilder {
         ensures pipes { IfOk result (λ r. ArePipes r.0 (F.disk files.new)) }
         ensures opened { IfOk result (λ r. AreOpened self.now (F.disk files.old) (F.disk files.new) r.0) }
         ensures replayed { IfOk result (λ r. (all : List Placed) × M.has_replayed r.1 all × ArePipesWith self.now (F.disk files.old) (F.disk files.new) r.0 all) }
-        ensures reserved { IfOk result (λ r. AreReserved Append (directories_in self.now) (F.disk files.new) (as_reserved self.now.reserved_file_names.items) → r.0.append.reserved.items ≡ as_reserved self.now.reserved_file_names.items) }
+        ensures reserved { IfOk result (λ r. KeepsFound self.now Append (directories_in self.now) (F.disk files.new) r.0.append) }
         ensures leaves { LeavesBoth self.now.config.recovery_mode self.now (F.disk files.old) (F.disk files.new) }
         ensures refused { (queue : LogQueue) → CantBeOpened self.now.config.recovery_mode self.now queue (F.disk files.old) → IsErr result }
         ensures corrupt { (f : CorruptionFault) → result ≡ Err (Corruption f) → (queue : LogQueue) × CantBeOpened self.now.config.recovery_mode self.now queue (F.disk files.old) }
@@ -199,7 +199,7 @@ impl DualPipesBuilder {
         ensures pipes { IfOk result (λ r. ArePipes r.0 (F.disk files.new)) }
         ensures opened { IfOk result (λ r. AreOpened self.now (F.disk files.old) (F.disk files.new) r.0) }
         ensures replayed { IfOk result (λ r. (all : List Placed) × M.has_replayed r.1 all × ArePipesWith self.now (F.disk files.old) (F.disk files.new) r.0 all) }
-        ensures reserved { IfOk result (λ r. AreReserved Append (directories_in self.now) (F.disk files.new) (as_reserved self.now.reserved_file_names.items) → r.0.append.reserved.items ≡ as_reserved self.now.reserved_file_names.items) }
+        ensures reserved { IfOk result (λ r. KeepsFound self.now Append (directories_in self.now) (F.disk files.new) r.0.append) }
         ensures leaves { LeavesBoth self.now.config.recovery_mode self.now (F.disk files.old) (F.disk files.new) }
         ensures refused { (queue : LogQueue) → CantBeOpened self.now.config.recovery_mode self.now queue (F.disk files.old) → IsErr result }
         ensures corrupt { (f : CorruptionFault) → result ≡ Err (Corruption f) → (queue : LogQueue) × CantBeOpened self.now.config.recovery_mode self.now queue (F.disk files.old) }

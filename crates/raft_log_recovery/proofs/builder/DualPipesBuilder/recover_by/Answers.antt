@@ -12,8 +12,7 @@ use Rattle.std.proofs.Common.{List, map, inr, sym, subst, ◌∙◌}
 use Rattle.std.specs.String.{string_bytes}
 use Rattle.raft_log_disk.specs.Text.{Text}
 use Rattle.raft_log_records.specs.declared.file_id.LogQueue.TheVariants.{Append}
-use Rattle.raft_log_pipe.specs.Reserved.{AreReserved}
-use Rattle.raft_log_recovery.specs.Both.{as_reserved}
+use Rattle.raft_log_recovery.specs.Both.{KeepsFound}
 use Rattle.raft_log_recovery.proofs.KeptLemmas.{holes_as, opened_as, with_as}
 use Rattle.raft_log_recovery.proofs.builder.DualPipesBuilder.recover_by.Goals as goal
 
@@ -66,11 +65,12 @@ returns-clause-replayed g c =
     )
 
 pub returns-clause-reserved : goal.returns-clause-reserved
-returns-clause-reserved g c = λ reserved.
+returns-clause-reserved g c =
     let opened = c.in_ok-pipes.ensures.opened.append in
-    c.in_ok-with_found.ensures.reserved
-    (subst (λ (x : LogQueue). AreReserved x (map string_bytes c.in_ok-pipes.pipes.append.paths.items) (g.F.FileSystem.disk c.open_both.new.files) (as_reserved c.args.self.now.reserved_file_names.items)) (sym opened.queue_is)
-    (subst (λ (l : List Text). AreReserved Append l (g.F.FileSystem.disk c.open_both.new.files) (as_reserved c.args.self.now.reserved_file_names.items)) (sym opened.paths) reserved))
+    let d = g.F.FileSystem.disk c.open_both.new.files in
+    let q = c.with_found.new.pipes.append in
+    subst (λ (l : List Text). KeepsFound c.args.self.now Append l d q) opened.paths
+    (subst (λ (x : LogQueue). KeepsFound c.args.self.now x (map string_bytes c.in_ok-pipes.pipes.append.paths.items) d q) opened.queue_is c.in_ok-with_found.ensures.reserved)
 
 pub returns-clause-holes : goal.returns-clause-holes
 returns-clause-holes g c = holes_as c.args.self.now (g.F.FileSystem.disk c.args.files.now) (g.F.FileSystem.disk c.open_both.new.files) c.in_ok-pipes.pipes c.with_found.new.pipes c.in_ok-with_found.ensures.append c.in_ok-with_found.ensures.rewrite (c.in_ok-pipes.ensures.holes c.new_target-machine.ensures)

@@ -1,12 +1,24 @@
-use Rattle.std.proofs.Common.{◌≡◌, ap, subst, ◌∙◌, List}
-use Rattle.std.specs.Prelude.{OnOk}
+use Rattle.std.proofs.Common.{◌≡◌, ℕ, ◌<◌, [], ap, sym, subst, ◌∙◌, List}
 use Rattle.raft_log_pipe.specs.declared.file.ReservedFile.{ReservedFile}
 use Rattle.raft_log_pipe.specs.Alone.{directories_of_pipe}
 use Rattle.raft_log_pipe.specs.Reserved.{AreReserved}
-use Rattle.raft_log_recovery.specs.Both.{as_reserved}
+use Rattle.raft_log_recovery.specs.Both.{KeepsFound, as_reserved}
+use Rattle.raft_log_recovery.proofs.KeptLemmas.{ok_three}
 use Rattle.raft_log_recovery.proofs.builder.DualPipesBuilder.with_found.Goals as goal
 
 pub returns-clause-reserved : goal.returns-clause-reserved
 returns-clause-reserved g c =
-    subst (λ (l : List ReservedFile). OnOk c.keep_reserved.result (AreReserved c.args.pipes.now.append.queue (directories_of_pipe c.args.pipes.now.append) (g.F.FileSystem.disk c.args.files.now) l
-    → c.keep_reserved.new.self.append.reserved.items ≡ l)) (c.in_ok-found.ensures ∙ ap as_reserved c.deref.ensures.value) c.keep_reserved.ensures.ok
+    let p = c.args.pipes.now.append in
+    let q = c.keep_reserved.new.self.append in
+    let d = g.F.FileSystem.disk c.args.files.now in
+    let n = c.recycle_capacity-capacity.result in
+    let is = c.recycle_capacity-capacity.ensures in
+    let found = c.in_ok-found.ensures ∙ ap as_reserved c.deref.ensures.value in
+    ok_three c.keep_reserved.result (q.capacity ≡ n) (n ≡ 0 → q.reserved.items ≡ []) (0 < n → AreReserved p.queue (directories_of_pipe p) d c.in_ok-found.found.items → q.reserved.items ≡ c.in_ok-found.found.items)
+    (KeepsFound c.args.self.now p.queue (directories_of_pipe p) d q)
+    (λ capacity none kept. record {
+      capacity = capacity ∙ is;
+      none = λ zero. none (is ∙ zero);
+      found = λ some. subst (λ (l : List ReservedFile). AreReserved p.queue (directories_of_pipe p) d l → q.reserved.items ≡ l) found (kept (subst (λ (m : ℕ). 0 < m) (sym is) some));
+    })
+    c.keep_reserved.ensures.capacity c.keep_reserved.ensures.none c.keep_reserved.ensures.ok
