@@ -16,7 +16,7 @@ use Rattle.raft_log_cleaner.specs.Pipes.{KeepsPipe, KeepsPipes, LeavesPipe, Leav
 -- ---- of a pipe
 
 pub same_pipe : (p : SinglePipe) (d : Disk) → KeepsPipe p d p d
-same_pipe p d = record { set = (refl, refl); paths = refl; alone = λ alone. alone }
+same_pipe p d = record { set = (refl, refl, refl); paths = refl; alone = λ alone. alone }
 
 pub pipe_as_before : (p q : SinglePipe) (d e : Disk) → IsAsBefore p d q e → KeepsPipe p d q e
 pipe_as_before p q d e before = record {

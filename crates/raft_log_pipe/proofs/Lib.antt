@@ -14,6 +14,7 @@ pub mod ReadLemmas
 pub mod GiveUpLemmas
 pub mod AloneLemmas
 pub mod TornLemmas
+mod TrimLemmas
 pub mod OthersLemmas
 pub mod TakenLemmas
 pub mod LostLemmas

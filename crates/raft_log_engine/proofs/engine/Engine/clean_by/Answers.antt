@@ -309,7 +309,7 @@ pub returns-then-not-may_clean-clause-paths : goal.returns-then-not-may_clean-cl
 returns-then-not-may_clean-clause-paths g c = rw (← c.self.view_is) refl
 
 pub returns-then-not-may_clean-clause-set : goal.returns-then-not-may_clean-clause-set
-returns-then-not-may_clean-clause-set g c = rw (← c.self.view_is) ((refl, refl), (refl, refl))
+returns-then-not-may_clean-clause-set g c = rw (← c.self.view_is) ((refl, refl, refl), (refl, refl, refl))
 
 pub returns-then-not-may_clean-clause-opens_still : goal.returns-then-not-may_clean-clause-opens_still
 returns-then-not-may_clean-clause-opens_still g c =
@@ -342,7 +342,7 @@ pub returns-then-self-clause-paths : goal.returns-then-self-clause-paths
 returns-then-self-clause-paths g c = rw (← c.self.view_is) refl
 
 pub returns-then-self-clause-set : goal.returns-then-self-clause-set
-returns-then-self-clause-set g c = rw (← c.self.view_is) ((refl, refl), (refl, refl))
+returns-then-self-clause-set g c = rw (← c.self.view_is) ((refl, refl, refl), (refl, refl, refl))
 
 pub returns-then-self-clause-opens_still : goal.returns-then-self-clause-opens_still
 returns-then-self-clause-opens_still g c = rw (← c.self.view_is) (λ sound. absurd (false≢true (sym sound.goes_on ∙ c.if-self.true)))
