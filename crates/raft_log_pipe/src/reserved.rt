@@ -1,10 +1,14 @@
 //! Files that are kept for reuse.
 
-ghost use Rattle.std.specs.Prelude.{◌≡◌, ◌<◌, ◌↔◌, [], ◌++◌, ◌∷◌, string_bytes, IfErr, IfOk, IsTrue, OnOk, OnErr};
+ghost use Rattle.std.specs.Prelude.{◌≡◌, ◌-◌, ◌<◌, ◌↔◌, [], length, ◌++◌, ◌∷◌, string_bytes, IfErr, IfOk, IsTrue, OnOk, OnErr};
+ghost use Rattle.raft_log_disk.specs.Cause.{RefusesNoMore};
 ghost use Rattle.raft_log_files.specs.FileName.{IsFileSeq, reserved_name};
 ghost use Rattle.raft_log_files.specs.declared.error.Error.TheVariants.{Memory};
 ghost use Rattle.raft_log_pipe.specs.Alone.{directories_of_pipe};
+ghost use Rattle.raft_log_pipe.specs.Caused.{IsRefusalOrMemory};
 ghost use Rattle.raft_log_pipe.specs.Kept.{with_reserved};
+ghost use Rattle.raft_log_pipe.specs.Next.{KeepsAllLogs};
+ghost use Rattle.raft_log_pipe.specs.Others.{KeepsOthers};
 ghost use Rattle.raft_log_pipe.specs.Pipe.{IsPipe};
 ghost use Rattle.raft_log_pipe.specs.Reserved.{AreReserved, IsReserved, is_before};
 
@@ -125,6 +129,26 @@ impl SinglePipe {
         }
         self.take_over(files, found)?;
         self.capacity = capacity;
+        Ok(())
+    }
+
+    /// Deletes the last reserved file, if there is one. After an `Err` the pipe has it no more, and
+    /// on the disk it may be left.
+    fn delete_last<F: FileSystem>(&mut self, files: &mut F) -> Result<(), Error>
+        requires { IsPipe self.old (F.disk files.old) }
+        ensures pipe { IsPipe self.new (F.disk files.new) }
+        ensures same { self.new ≡ with_reserved self.old self.new.reserved self.old.capacity }
+        ensures fewer { length self.new.reserved.items ≡ length self.old.reserved.items - 1 }
+        ensures logs { KeepsAllLogs (F.disk files.old) (F.disk files.new) }
+        ensures others { KeepsOthers self.old.queue (F.disk files.old) (F.disk files.new) }
+        ensures later { RefusesNoMore (F.is_bounded files.old) (F.is_bounded files.new) (F.meter files.old) (F.meter files.new) }
+        ensures cause { IfErr result (λ e. IsRefusalOrMemory (F.meter files.old) (F.meter files.new) e) }
+    {
+        let Some(kept) = self.reserved.pop() else {
+            return Ok(());
+        };
+        let path = reserved_path(self.alloc, self.paths[kept.path_id].as_str(), kept.seq)?;
+        files.delete(path.as_str())?;
         Ok(())
     }
 }
