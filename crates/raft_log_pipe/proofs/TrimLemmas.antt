@@ -12,14 +12,15 @@ use Rattle.raft_log_disk.proofs.DiskLemmas.{other_file, without_other}
 use Rattle.raft_log_pipe.specs.declared.file.File.{File}
 use Rattle.raft_log_pipe.specs.declared.file.ReservedFile.{ReservedFile}
 use Rattle.raft_log_pipe.specs.declared.pipe.SinglePipe.{SinglePipe}
-use Rattle.raft_log_pipe.specs.Alone.{directories_of_pipe}
+use Rattle.raft_log_pipe.specs.Alone.{IsAlone, directories_of_pipe}
+use Rattle.raft_log_pipe.specs.Blocks.{files_of}
 use Rattle.raft_log_pipe.specs.Kept.{with_reserved}
 use Rattle.raft_log_pipe.specs.Next.{KeepsAllLogs}
 use Rattle.raft_log_pipe.specs.Others.{IsOther, KeepsOthers}
-use Rattle.raft_log_pipe.specs.Pipe.{IsPipe, id_of}
+use Rattle.raft_log_pipe.specs.Pipe.{IsPipe, Holds, Numbered, id_of}
 use Rattle.raft_log_pipe.specs.Reserved.{AreReserved, IsReserved, IsReservedPath, reserved_path}
 use Rattle.raft_log_pipe.proofs.AloneLemmas.{found_in}
-use Rattle.raft_log_pipe.proofs.BehindLemmas.{logs_named, logs_writer, same_logs}
+use Rattle.raft_log_pipe.proofs.BehindLemmas.{all_last, logs_hold, logs_named, logs_writer, same_logs}
 use Rattle.raft_log_pipe.proofs.KeptLemmas.{names_still}
 use Rattle.raft_log_pipe.proofs.NextLemmas.{has_path_says}
 use Rattle.raft_log_pipe.proofs.OthersLemmas.{found_there, one_path, same_others}
@@ -146,3 +147,15 @@ trimmed p d e rs f path named named_e pipe split path_is change =
       logs = deleted_logs p.queue (directories_of_pipe p) d e f path named named_e all.1 path_is gone;
       others = deleted_others p.queue (directories_of_pipe p) d e f path named named_e all.1 path_is gone;
     }
+
+-- ---- calls that change reserved files alone
+
+-- one after another
+pub reserved_again : (p q r : SinglePipe) → q ≡ with_reserved p q.reserved p.capacity → r ≡ with_reserved q r.reserved q.capacity → r ≡ with_reserved p r.reserved p.capacity
+reserved_again p q r one two = two ∙ ap (λ (x : SinglePipe). with_reserved x r.reserved x.capacity) one
+
+pub trim_holds : (p q : SinglePipe) (d e : Disk) → IsNamed d → q ≡ with_reserved p q.reserved p.capacity → KeepsAllLogs d e → (s u : Numbered) → Holds p d s u → Holds q e s u
+trim_holds p q d e named same logs s u h = subst (λ (x : SinglePipe). Holds x e s u) (sym same) (logs_hold d e (λ path. ⊥) named (no_path d) logs p s u h)
+
+pub trim_alone : (p q : SinglePipe) (d e : Disk) → q ≡ with_reserved p q.reserved p.capacity → KeepsAllLogs d e → IsAlone p d → IsAlone q e
+trim_alone p q d e same logs alone = subst (λ (x : SinglePipe). IsAlone x e) (sym same) (all_last d e logs (directories_of_pipe p) p.queue (files_of p) alone)

@@ -1,15 +1,15 @@
 //! Files that are kept for reuse.
 
-ghost use Rattle.std.specs.Prelude.{◌≡◌, ◌-◌, ◌<◌, ◌↔◌, [], length, ◌++◌, ◌∷◌, string_bytes, IfErr, IfOk, IsTrue, OnOk, OnErr};
+ghost use Rattle.std.specs.Prelude.{◌≡◌, ◌-◌, ◌<◌, ◌≤◌, ◌↔◌, [], length, ◌++◌, ◌∷◌, string_bytes, IfErr, IfOk, IsTrue, OnOk, OnErr};
 ghost use Rattle.raft_log_disk.specs.Cause.{RefusesNoMore};
 ghost use Rattle.raft_log_files.specs.FileName.{IsFileSeq, reserved_name};
 ghost use Rattle.raft_log_files.specs.declared.error.Error.TheVariants.{Memory};
-ghost use Rattle.raft_log_pipe.specs.Alone.{directories_of_pipe};
+ghost use Rattle.raft_log_pipe.specs.Alone.{IsAlone, directories_of_pipe};
 ghost use Rattle.raft_log_pipe.specs.Caused.{IsRefusalOrMemory};
 ghost use Rattle.raft_log_pipe.specs.Kept.{with_reserved};
 ghost use Rattle.raft_log_pipe.specs.Next.{KeepsAllLogs};
 ghost use Rattle.raft_log_pipe.specs.Others.{KeepsOthers};
-ghost use Rattle.raft_log_pipe.specs.Pipe.{IsPipe};
+ghost use Rattle.raft_log_pipe.specs.Pipe.{IsPipe, Holds, Numbered};
 ghost use Rattle.raft_log_pipe.specs.Reserved.{AreReserved, IsReserved, is_before};
 
 use crate::file::ReservedFile;
@@ -149,6 +149,32 @@ impl SinglePipe {
         };
         let path = reserved_path(self.alloc, self.paths[kept.path_id].as_str(), kept.seq)?;
         files.delete(path.as_str())?;
+        Ok(())
+    }
+
+    /// Deletes reserved files, the last first, until no more than so many are kept (own;
+    /// raft-engine does it in its builder). After an `Err` fewer may be kept, and on the disk one
+    /// that isn't may be left.
+    pub fn trim_reserved<F: FileSystem>(
+        &mut self,
+        files: &mut F,
+        wanted: u64,
+    ) -> Result<(), Error>
+        requires { IsPipe self.old (F.disk files.old) }
+        ensures pipe { IsPipe self.new (F.disk files.new) }
+        ensures same { self.new ≡ with_reserved self.old self.new.reserved self.old.capacity }
+        ensures ok { OnOk result (length self.new.reserved.items ≤ wanted) }
+        ensures logs { KeepsAllLogs (F.disk files.old) (F.disk files.new) }
+        ensures others { KeepsOthers self.old.queue (F.disk files.old) (F.disk files.new) }
+        ensures holds { (synced : Numbered) (unsynced : Numbered) → Holds self.old (F.disk files.old) synced unsynced → Holds self.new (F.disk files.new) synced unsynced }
+        ensures alone { IsAlone self.old (F.disk files.old) → IsAlone self.new (F.disk files.new) }
+        ensures later { RefusesNoMore (F.is_bounded files.old) (F.is_bounded files.new) (F.meter files.old) (F.meter files.new) }
+        ensures cause { IfErr result (λ e. IsRefusalOrMemory (F.meter files.old) (F.meter files.new) e) }
+    {
+        let surplus = (self.reserved.len() as u64).saturating_sub(wanted);
+        for _gone in 0..surplus {
+            self.delete_last(files)?;
+        }
         Ok(())
     }
 }

@@ -20,7 +20,7 @@ index-requires g c =
     let rs = c.pop.new.self in
     let split : p.reserved.items ≡ rs.items ++ r ∷ [] = c.in-Some.ensures.items in
     let all = last_reserved p.queue (directories_of_pipe p) d rs.items r (subst (AreReserved p.queue (directories_of_pipe p) d) split c.requires.reserved) in
-    first_within p d r all.1
+    omega (arith, first_within p d r all.1, c.args.self.now.paths.ok.0)
 
 pub reserved_path-requires : goal.reserved_path-requires
 reserved_path-requires g c =

@@ -1,0 +1,17 @@
+use Rattle.std.proofs.Common.{◌≡◌, ◌-◌, length}
+use Rattle.raft_log_disk.specs.Cause.{RefusesNoMore}
+use Rattle.raft_log_pipe.specs.Kept.{with_reserved}
+use Rattle.raft_log_pipe.specs.Next.{KeepsAllLogs}
+use Rattle.raft_log_pipe.specs.Others.{KeepsOthers}
+use Rattle.raft_log_pipe.specs.Pipe.{IsPipe}
+use Rattle.raft_log_pipe.proofs.pipe.SinglePipe.trim_reserved.Given as goal
+
+abbrev pub invariant-loop-gone : goal.invariant-loop-gone
+invariant-loop-gone g l = record {
+  pipe : IsPipe l.self (g.F.FileSystem.disk l.files);
+  same : l.self ≡ with_reserved l.initial.self l.self.reserved l.initial.self.capacity;
+  count : length l.self.reserved.items ≡ length l.initial.self.reserved.items - l._gone;
+  logs : KeepsAllLogs (g.F.FileSystem.disk l.initial.files) (g.F.FileSystem.disk l.files);
+  others : KeepsOthers l.initial.self.queue (g.F.FileSystem.disk l.initial.files) (g.F.FileSystem.disk l.files);
+  later : RefusesNoMore (g.F.FileSystem.is_bounded l.initial.files) (g.F.FileSystem.is_bounded l.files) (g.F.FileSystem.meter l.initial.files) (g.F.FileSystem.meter l.files);
+}
