@@ -155,11 +155,7 @@ impl SinglePipe {
     /// Deletes reserved files, the last first, until no more than so many are kept (own;
     /// raft-engine does it in its builder). After an `Err` fewer may be kept, and on the disk one
     /// that isn't may be left.
-    pub fn trim_reserved<F: FileSystem>(
-        &mut self,
-        files: &mut F,
-        wanted: u64,
-    ) -> Result<(), Error>
+    pub fn trim_reserved<F: FileSystem>(&mut self, files: &mut F, wanted: u64) -> Result<(), Error>
         requires { IsPipe self.old (F.disk files.old) }
         ensures pipe { IsPipe self.new (F.disk files.new) }
         ensures same { self.new ≡ with_reserved self.old self.new.reserved self.old.capacity }
