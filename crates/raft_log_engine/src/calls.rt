@@ -17,21 +17,12 @@ ghost use Rattle.raft_log_pipes.specs.Kept.{KeepSettings};
 ghost use Rattle.raft_log_records.specs.Batch.{nothing_logged, payloads};
 ghost use Rattle.raft_log_records.specs.Spelling.{record_len};
 
-use crate::appending::append_batch;
 use crate::blocks::{copies_of, fault_of};
 use crate::engine::Engine;
 use crate::fault::EngineFault;
-use crate::writing::{apply, prepare};
 use raft_log_files::FileSystem;
+use raft_log_purge::PurgeHook;
 use raft_log_records::{LogBatch, LogQueue};
-
-/// Whether a write wasn't synced, with one more write.
-fn skips_sync(before: bool, sync: bool) -> bool
-    ensures synced { sync ≡ true → result ≡ before }
-    ensures none { result ≡ false → (sync ≡ true) × (before ≡ false) }
-{
-    before || !sync
-}
 
 impl<F: FileSystem + Drop> Engine<F> {
     /// Writes a batch (raft-engine's `write`), and syncs it where that is asked for. Before anything
@@ -71,33 +62,8 @@ impl<F: FileSystem + Drop> Engine<F> {
         ensures taken { NothingRefuses (F.is_bounded self.old.files) (F.meter self.old.files) → IsWriteTaken F.disk self.old batch.old.items result }
         ensures cause { IfErr result (λ fault. IsWriteFault F.disk self.old batch.old.items (F.meter self.old.files) (F.meter self.new.files) fault) }
     {
-        if self.is_stopped {
-            return Err(EngineFault::Stopped);
-        }
-        if batch.is_empty() {
-            let _ = batch.drain();
-            if sync {
-                self.sync()?;
-                return Ok(0);
-            }
-            return Ok(0);
-        }
-        let len = prepare(&self.traced.tables, batch)?;
-        let block = batch.entries_block();
-        let written = match append_batch(&mut self.files, &mut self.pipes, batch, sync) {
-            Ok(written) => written,
-            Err(error) => {
-                self.is_stopped = true;
-                return Err(EngineFault::Log(error));
-            }
-        };
-        let items = batch.drain();
-        if let Err(fault) = apply(&mut self.traced, items, block, written) {
-            self.is_stopped = true;
-            return Err(fault);
-        }
-        self.wrote_unsynced = skips_sync(self.wrote_unsynced, sync);
-        Ok(len)
+        let mut none: [PurgeHook; 0] = [];
+        self.write_with(batch, sync, &mut none)
     }
 
     /// Brings what was written onto the disk (raft-engine's `sync`): the append queue is synced, also

@@ -21,6 +21,7 @@ ghost use Rattle.raft_log_records.specs.declared.file_id.LogQueue.TheVariants.{A
 
 use crate::engine::Engine;
 use crate::fault::EngineFault;
+use crate::hearing::tell_begun;
 use raft_log_files::FileSystem;
 use raft_log_purge::{EventListener, least_kept, tell_gone};
 use raft_log_records::{FileId, FileSeq, LogQueue};

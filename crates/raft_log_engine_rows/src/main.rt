@@ -6,6 +6,7 @@ mod calls;
 mod cleaning;
 mod damage;
 mod found;
+mod hearing;
 mod listeners;
 mod logs;
 mod messages;

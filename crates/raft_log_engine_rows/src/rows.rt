@@ -4,6 +4,7 @@ use crate::calls::{Told, steps_on};
 use crate::cleaning::cleanings_of;
 use crate::damage::{Harm, harmed};
 use crate::found::{littered, many_groups, spilled, unread};
+use crate::hearing::heard_over;
 use crate::logs::{crash, genuine, refused_openings};
 use crate::patient::keeps_told;
 use crate::purging::{expired, kept_at_stops};
@@ -140,6 +141,10 @@ fn found_row(alloc: Global, words: &[&str]) -> Option<Answer> {
         ["expired", target_size, threshold, steps @ ..] => {
             let (target_size, threshold) = (number(target_size), number(threshold));
             Answer::shown(alloc, &expired(alloc, target_size, threshold, steps))
+        }
+        ["hearing", target_size, threshold, steps @ ..] => {
+            let (target_size, threshold) = (number(target_size), number(threshold));
+            Answer::shown(alloc, &heard_over(alloc, target_size, threshold, steps))
         }
         ["expires", how, target_size, threshold, steps @ ..] => {
             let sizes = (number(target_size), number(threshold));
