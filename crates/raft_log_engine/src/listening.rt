@@ -23,6 +23,7 @@ use crate::engine::Engine;
 use crate::fault::EngineFault;
 use crate::hearing::tell_begun;
 use raft_log_files::FileSystem;
+use raft_log_pipes::DualPipes;
 use raft_log_purge::{EventListener, least_kept, tell_gone};
 use raft_log_records::{FileId, FileSeq, LogQueue};
 
@@ -39,11 +40,27 @@ fn tell_last<L: EventListener>(
     }
 }
 
+/// Tells listeners of the files that a cleaning began, and of the last ones that went, where the queues
+/// had these first and last files before.
+fn tell_changes<L: EventListener>(
+    listeners: &mut [L],
+    pipes: &DualPipes,
+    appends: (FileSeq, FileSeq),
+    rewrites: (FileSeq, FileSeq),
+) {
+    let (first_append, last_append) = pipes.file_span(LogQueue::Append);
+    let (first_rewrite, last_rewrite) = pipes.file_span(LogQueue::Rewrite);
+    tell_begun(listeners, LogQueue::Append, appends.1, last_append);
+    tell_begun(listeners, LogQueue::Rewrite, rewrites.1, last_rewrite);
+    tell_last(listeners, LogQueue::Rewrite, rewrites.0, first_rewrite);
+    tell_last(listeners, LogQueue::Append, appends.0, first_append);
+}
+
 impl<F: FileSystem + Drop> Engine<F> {
     /// Cleans both queues where they are due, as `purge_expired_files` says, with listeners
     /// (raft-engine's, which are set at the opening). No append file goes from the least one on that one
-    /// of them keeps. A rewrite queue of which one keeps a file isn't written anew. Each is told of the
-    /// last file of each queue that went.
+    /// of them keeps. A rewrite queue of which one keeps a file isn't written anew. Each is told of
+    /// the new files, and of the last file of each queue that went.
     pub fn purge_expired_files_with<L: EventListener>(
         &mut self,
         listeners: &mut [L],
@@ -71,14 +88,11 @@ impl<F: FileSystem + Drop> Engine<F> {
     {
         let barrier = least_kept(listeners, LogQueue::Append);
         let is_held = least_kept(listeners, LogQueue::Rewrite).is_some();
-        let (first, _) = self.pipes.file_span(LogQueue::Append);
-        let (rewrite, _) = self.pipes.file_span(LogQueue::Rewrite);
+        let appends = self.pipes.file_span(LogQueue::Append);
+        let rewrites = self.pipes.file_span(LogQueue::Rewrite);
         match self.purge_due(barrier, is_held) {
             Ok(groups) => {
-                let (behind, _) = self.pipes.file_span(LogQueue::Append);
-                tell_last(listeners, LogQueue::Append, first, behind);
-                let (behind, _) = self.pipes.file_span(LogQueue::Rewrite);
-                tell_last(listeners, LogQueue::Rewrite, rewrite, behind);
+                tell_changes(listeners, &self.pipes, appends, rewrites);
                 Ok(groups)
             }
             Err(fault) => Err(fault),
@@ -86,7 +100,7 @@ impl<F: FileSystem + Drop> Engine<F> {
     }
 
     /// Cleans the append queue, as `clean_append_queue` says, with listeners. No file goes from the least
-    /// one on that one of them keeps, and each is told of the last one that went.
+    /// one on that one of them keeps. Each is told of the new files, and of the last one that went.
     pub fn clean_append_queue_with<L: EventListener>(
         &mut self,
         listeners: &mut [L],
@@ -116,11 +130,11 @@ impl<F: FileSystem + Drop> Engine<F> {
         ensures later { RefusesNoMore (F.is_bounded self.old.files) (F.is_bounded self.new.files) (F.meter self.old.files) (F.meter self.new.files) }
     {
         let barrier = least_kept(listeners, LogQueue::Append);
-        let (first, _) = self.pipes.file_span(LogQueue::Append);
+        let appends = self.pipes.file_span(LogQueue::Append);
+        let rewrites = self.pipes.file_span(LogQueue::Rewrite);
         match self.clean_append_queue(barrier) {
             Ok(went) => {
-                let (behind, _) = self.pipes.file_span(LogQueue::Append);
-                tell_last(listeners, LogQueue::Append, first, behind);
+                tell_changes(listeners, &self.pipes, appends, rewrites);
                 Ok(went)
             }
             Err(fault) => Err(fault),
