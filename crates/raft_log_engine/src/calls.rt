@@ -2,6 +2,7 @@
 ghost use Rattle.std.specs.Prelude.{◌≡◌, ◌≤◌, ◌+◌, ◌++◌, ℕ, List, [], true, false, Err, IfErr, IfOk, OnOk, OnErr, length, option_map};
 ghost use Rattle.raft_content_log.specs.Leaving.{AgreesElsewhere, IsWritten, LeavesElsewhere, LeavesNoMore, MayBeWritten};
 ghost use Rattle.raft_log_disk.specs.Cause.{NothingRefuses, RefusesNoMore};
+ghost use Rattle.raft_log_engine.specs.Barred.{KeepsFound};
 ghost use Rattle.raft_log_engine.specs.Caused.{IsFetchFault, IsSyncFault, IsWriteFault};
 ghost use Rattle.raft_log_engine.specs.Left.{IsSound, answers_on, leaves_on};
 ghost use Rattle.raft_log_engine.specs.Reads.{HasRead, IsStopped, IsTableFault};
@@ -53,6 +54,7 @@ impl<F: FileSystem + Drop> Engine<F> {
             → OpensAsFront (directories_of_engine self.new) (F.disk self.new.files) before (batches ++ written_batch batch.old.items) }
         ensures all_written { OnOk result (sync ≡ true → HasWritten F.disk self.new (answers_on F.disk self.new) []) }
         ensures emptied { OnOk result (batch.new ≡ nothing_logged) }
+        ensures marks { KeepsFound self.old self.new }
         ensures stopped { self.old.is_stopped ≡ true → result ≡ Err Stopped }
         ensures others { sync ≡ true → LeavesElsewhere batch.old.items (leaves_on F.disk self.old) (leaves_on F.disk self.new) }
         ensures others_answered { IsSound self.new → IsSound self.old × AgreesElsewhere batch.old.items (answers_on F.disk self.new) (answers_on F.disk self.old) }
@@ -89,6 +91,7 @@ impl<F: FileSystem + Drop> Engine<F> {
         ensures tail_still { (before : Content (List ℕ)) (batches : List Batch) → StandsAlone F.disk self.old → HasWritten F.disk self.old before batches
             → OpensInTail (directories_of_engine self.new) (F.disk self.new.files) self.new.pipes }
         ensures flag { self.new.wrote_unsynced ≡ self.old.wrote_unsynced }
+        ensures marks { KeepsFound self.old self.new }
         ensures stopped { self.old.is_stopped ≡ true → result ≡ Err Stopped }
         ensures later { RefusesNoMore (F.is_bounded self.old.files) (F.is_bounded self.new.files) (F.meter self.old.files) (F.meter self.new.files) }
         ensures taken { NothingRefuses (F.is_bounded self.old.files) (F.meter self.old.files) → IsSyncTaken self.old result }
