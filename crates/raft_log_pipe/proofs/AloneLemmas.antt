@@ -1,5 +1,5 @@
 -- The log files of a queue in its directories, through the calls of a pipe.
-use Rattle.std.proofs.Common.{◌≡◌, ◌⊎◌, inl, inr, ⊎_elim, ℕ, zero, suc, ◌+◌, ◌<◌, ◌≤◌, max, Bool, true, false, cond, List, [], ◌∷◌, ◌++◌, length, get_or, map, Option, Some, None, refl, sym, ap, subst, ◌∙◌, arith}
+use Rattle.std.proofs.Common.{◌≡◌, ◌⊎◌, inl, inr, ⊎_elim, ℕ, zero, suc, ◌+◌, ◌<◌, ◌≤◌, Bool, true, false, cond, List, [], ◌∷◌, ◌++◌, length, get_or, map, Option, Some, None, refl, sym, ap, subst, ◌∙◌, arith}
 use Rattle.std.specs.Prelude.{Result, Ok, Err, OnOk, OnErr, String, Vec}
 use Rattle.std.specs.String.{string_bytes}
 use Rattle.std.specs.List.{AllByRecursion}
@@ -13,20 +13,18 @@ use Rattle.raft_log_disk.specs.declared.fault.IoFault.{IoFault}
 use Rattle.raft_log_disk.specs.Text.{Text, same_text}
 use Rattle.raft_log_disk.specs.Name.{log_file_of}
 use Rattle.raft_log_disk.specs.Disk.{Disk, FileState, IsIn, after_create, fd_of, no_bytes}
-use Rattle.raft_log_disk.specs.Format.{spelled_header}
 use Rattle.raft_log_disk.proofs.DiskLemmas.{pushed_other, pushed_there, same_file}
 use Rattle.raft_log_files.specs.FileName.{IsFileSeq, log_file_name}
-use Rattle.raft_log_file.specs.declared.writer.LogFileWriter.{LogFileWriter}
 use Rattle.raft_log_pipe.specs.declared.file.File.{File}
 use Rattle.raft_log_pipe.specs.declared.pipe.SinglePipe.{SinglePipe}
 use Rattle.raft_log_pipe.specs.Alone.{AreDistinct, AreLast, IsAlone, IsMadeAt, IsMadeIn, IsNearlyAlone, IsVacant, Names, StandsAt, directories_of_pipe, path_in}
-use Rattle.raft_log_pipe.specs.Begun.{Changes, IsBegun}
+use Rattle.raft_log_pipe.specs.Begun.{Changes}
 use Rattle.raft_log_pipe.specs.Blocks.{files_of}
 use Rattle.raft_log_pipe.specs.Found.{MakesButHeader}
-use Rattle.raft_log_pipe.specs.Pipe.{AreConsecutive, IsNamedSo, IsPlain, id_of}
-use Rattle.raft_log_pipe.specs.Stored.{IsStored}
-use Rattle.raft_log_pipe.proofs.PipeLemmas.{image_there, in_all, leaves_last, stays}
-use Rattle.raft_log_pipe.proofs.NextLemmas.{begun_changes, begun_stored, consecutive_push, new_empty, path_says, some_is, with_next}
+use Rattle.raft_log_pipe.specs.Pipe.{AreConsecutive, IsNamedSo, id_of}
+use Rattle.raft_log_pipe.proofs.PipeLemmas.{in_all, stays}
+use Rattle.raft_log_pipe.proofs.NextLemmas.{consecutive_push, path_says, some_is}
+use Rattle.raft_log_pipe.proofs.ReservedLemmas.{not_same}
 
 -- ---- names
 
@@ -42,16 +40,6 @@ found_in (e ∷ es) path fd there = same_path (same_text e.0 path) e es path fd 
 pub never_some : (o : Option ℕ) → ((fd : ℕ) → o ≡ Some fd → ⊥) → o ≡ None
 never_some None never = refl
 never_some (Some fd) never = absurd (never fd refl)
-
--- a path that is there stays where another one is added
-still_step : (t : Bool) (e : Text × ℕ) (es : Names) (other path : Text) (fd n : ℕ) → (fd_of es path ≡ Some fd → fd_of (es ++ (other, n) ∷ []) path ≡ Some fd) → cond t (Some e.1) (fd_of es path) ≡ Some fd
-    → cond t (Some e.1) (fd_of (es ++ (other, n) ∷ []) path) ≡ Some fd
-still_step true e es other path fd n next is = is
-still_step false e es other path fd n next is = next is
-
-still_there : (es : Names) (other path : Text) (fd n : ℕ) → fd_of es path ≡ Some fd → fd_of (es ++ (other, n) ∷ []) path ≡ Some fd
-still_there [] other path fd n there = absurd cc
-still_there (e ∷ es) other path fd n there = still_step (same_text e.0 path) e es other path fd n (still_there es other path fd n) there
 
 -- ---- files
 
@@ -81,20 +69,30 @@ last_next (g ∷ fs) f next numbers = last_next fs f next numbers.1
 
 -- ---- a new name
 
-module _ (names : Names) (directories : List Text) (queue : LogQueue) (id : FileId) (place n : ℕ) where
-  abbrev pub with_new : Names
-  with_new = names ++ (path_in directories place id, n) ∷ []
+pub none_some : (o : Option ℕ) (fd : ℕ) → o ≡ None → o ≡ Some fd → ⊥
+none_some o fd none some = let both : None ≡ Some fd = sym none ∙ some in absurd cc
 
-  stands_on : (seq at fd : ℕ) → StandsAt names directories queue seq at fd → StandsAt with_new directories queue seq at fd
-  stands_on seq at fd s = (s.0, s.1, still_there names (path_in directories place id) (path_in directories at (id_of queue seq)) fd n s.2)
+pub said_in : (directories : List Text) (queue : LogQueue) (seq place : ℕ) → IsFileSeq seq → log_file_of (path_in directories place (id_of queue seq)) ≡ Some (id_of queue seq)
+said_in directories queue seq place number = path_says (get_or directories place []) (log_file_name (id_of queue seq)) (path_in directories place (id_of queue seq)) (id_of queue seq) number refl refl
 
-  each_on : (fs : List File) → AllByRecursion (λ f. StandsAt names directories queue f.seq f.path_id f.handle.0) fs → AllByRecursion (λ f. StandsAt with_new directories queue f.seq f.path_id f.handle.0) fs
+-- a log file has a path that named none, and the others have theirs
+module _ (names then : Names) (directories : List Text) (queue : LogQueue) (id : FileId) (place : ℕ) (free : fd_of names (path_in directories place id) ≡ None)
+    (beside : (path : Text) (x : FileId) → log_file_of path ≡ Some x → same_text (path_in directories place id) path ≡ false → fd_of then path ≡ fd_of names path) where
+  stands_on : (seq at fd : ℕ) → StandsAt names directories queue seq at fd → StandsAt then directories queue seq at fd
+  stands_on seq at fd s = (
+    s.0,
+    s.1,
+    beside (path_in directories at (id_of queue seq)) (id_of queue seq) (said_in directories queue seq at s.0)
+        (not_same (path_in directories place id) (path_in directories at (id_of queue seq)) (λ same. none_some (fd_of names (path_in directories place id)) fd free (ap (fd_of names) same ∙ s.2))) ∙ s.2,
+  )
+
+  each_on : (fs : List File) → AllByRecursion (λ f. StandsAt names directories queue f.seq f.path_id f.handle.0) fs → AllByRecursion (λ f. StandsAt then directories queue f.seq f.path_id f.handle.0) fs
   each_on [] all = tt
   each_on (f ∷ fs) all = (stands_on f.seq f.path_id f.handle.0 all.0, each_on fs all.1)
 
   module _ (distinct : AreDistinct directories) (below : IsFileSeq id.seq) (within : place < length directories) (is : id.queue ≡ queue) where
     -- the new one's number and place, where the paths are one
-    same_place : (seq at fd : ℕ) → StandsAt with_new directories queue seq at fd → path_in directories place id ≡ path_in directories at (id_of queue seq) → (seq ≡ id.seq) × (at ≡ place)
+    same_place : (seq at fd : ℕ) → StandsAt then directories queue seq at fd → path_in directories place id ≡ path_in directories at (id_of queue seq) → (seq ≡ id.seq) × (at ≡ place)
     same_place seq at fd s same =
         let one = path_says (get_or directories place []) (log_file_name id) (path_in directories place id) id below refl refl in
         let two = path_says (get_or directories at []) (log_file_name (id_of queue seq)) (path_in directories at (id_of queue seq)) (id_of queue seq) s.0 refl refl in
@@ -105,12 +103,12 @@ module _ (names : Names) (directories : List Text) (queue : LogQueue) (id : File
         (ap (λ (x : FileId). x.seq) (sym ids), sym (distinct place at within s.1 dirs))
 
     -- what stands there now stood there before, or is the new one
-    stands_back : (seq at fd : ℕ) → StandsAt with_new directories queue seq at fd → StandsAt names directories queue seq at fd ⊎ ((seq ≡ id.seq) × (at ≡ place))
+    stands_back : (seq at fd : ℕ) → StandsAt then directories queue seq at fd → StandsAt names directories queue seq at fd ⊎ ((seq ≡ id.seq) × (at ≡ place))
     stands_back seq at fd s = by_test (same_text (path_in directories place id) (path_in directories at (id_of queue seq))) refl
       where
         by_test : (t : Bool) → same_text (path_in directories place id) (path_in directories at (id_of queue seq)) ≡ t → StandsAt names directories queue seq at fd ⊎ ((seq ≡ id.seq) × (at ≡ place))
         by_test true test = inr (same_place seq at fd s ((bytes_decides (path_in directories place id) (path_in directories at (id_of queue seq))).0 test))
-        by_test false test = inl (s.0, s.1, sym (pushed_other names (path_in directories place id) (path_in directories at (id_of queue seq)) n test) ∙ s.2)
+        by_test false test = inl (s.0, s.1, sym (beside (path_in directories at (id_of queue seq)) (id_of queue seq) (said_in directories queue seq at s.0) test) ∙ s.2)
 
 -- no file stands there with the number after those of the last ones
 none_next : (names : Names) (directories : List Text) (queue : LogQueue) (fs : List File) (some : File) (next seq place fd : ℕ) → AreLast names directories queue fs → IsIn some fs → AreConsecutive fs next
@@ -120,16 +118,14 @@ none_next names directories queue fs some next seq place fd last there numbers s
     omega (arith, below_next fs next g.0 numbers g.1, g.2, is)
 
 -- a file of the next number is the last one now
-module _ (names : Names) (directories : List Text) (queue : LogQueue) (fs : List File) (some f : File) (id : FileId) (last : AreLast names directories queue fs) (there : IsIn some fs) (numbers : AreConsecutive fs f.seq)
-    (below : IsFileSeq id.seq) (is : id ≡ id_of queue f.seq) (within : f.path_id < length directories) where
+module _ (names then : Names) (directories : List Text) (queue : LogQueue) (fs : List File) (some f : File) (id : FileId) (last : AreLast names directories queue fs) (there : IsIn some fs) (numbers : AreConsecutive fs f.seq)
+    (below : IsFileSeq id.seq) (is : id ≡ id_of queue f.seq) (within : f.path_id < length directories) (free : fd_of names (path_in directories f.path_id id) ≡ None)
+    (beside : (path : Text) (x : FileId) → log_file_of path ≡ Some x → same_text (path_in directories f.path_id id) path ≡ false → fd_of then path ≡ fd_of names path) where
   seq_is : id.seq ≡ f.seq
   seq_is = ap (λ (x : FileId). x.seq) is
 
-  abbrev pub names_then : Names
-  names_then = with_new names directories queue id f.path_id f.handle.0
-
-  back : (m at fd : ℕ) → StandsAt names_then directories queue m at fd → StandsAt names directories queue m at fd ⊎ ((m ≡ id.seq) × (at ≡ f.path_id))
-  back m at fd s = stands_back names directories queue id f.path_id f.handle.0 last.once.apart below within (ap (λ (x : FileId). x.queue) is) m at fd s
+  back : (m at fd : ℕ) → StandsAt then directories queue m at fd → StandsAt names directories queue m at fd ⊎ ((m ≡ id.seq) × (at ≡ f.path_id))
+  back m at fd s = stands_back names then directories queue id f.path_id free beside last.once.apart below within (ap (λ (x : FileId). x.queue) is) m at fd s
 
   one_place : (m i j fd gd : ℕ) → StandsAt names directories queue m i fd ⊎ ((m ≡ id.seq) × (i ≡ f.path_id)) → StandsAt names directories queue m j gd ⊎ ((m ≡ id.seq) × (j ≡ f.path_id)) → i ≡ j
   one_place m i j fd gd (inl a) (inl b) = last.once.once m i j fd gd a b
@@ -150,12 +146,12 @@ module _ (names : Names) (directories : List Text) (queue : LogQueue) (fs : List
   of_all m place fd h (inl s) among le = of_old m place fd h s (in_either h fs (f ∷ []) among) le
   of_all m place fd h (inr new) among le = (f, in_second f fs (f ∷ []) (inl refl), omega (arith, new.0, seq_is))
 
-  pub last_push : fd_of names (path_in directories f.path_id id) ≡ None → AreLast names_then directories queue (fs ++ f ∷ [])
-  last_push free = record {
+  pub last_push : fd_of then (path_in directories f.path_id id) ≡ Some f.handle.0 → AreLast then directories queue (fs ++ f ∷ [])
+  last_push here = record {
     next = f.seq + 1;
     numbers = consecutive_push fs f numbers;
-    each = each_push (λ x. StandsAt names_then directories queue x.seq x.path_id x.handle.0) fs f (each_on names directories queue id f.path_id f.handle.0 fs last.each)
-        (omega (arith, below, seq_is), within, subst (λ (x : FileId). fd_of names_then (path_in directories f.path_id x) ≡ Some f.handle.0) is (pushed_there names (path_in directories f.path_id id) f.handle.0 free));
+    each = each_push (λ x. StandsAt then directories queue x.seq x.path_id x.handle.0) fs f (each_on names then directories queue id f.path_id free beside fs last.each)
+        (omega (arith, below, seq_is), within, subst (λ (x : FileId). fd_of then (path_in directories f.path_id x) ≡ Some f.handle.0) is here);
     once = record {
       apart = last.once.apart;
       once = λ m i j fd gd a b. one_place m i j fd gd (back m i fd a) (back m j gd b);
@@ -234,23 +230,7 @@ stands_named d directories queue seq place fd s = (
   path_says (get_or directories place []) (log_file_name (id_of queue seq)) (path_in directories place (id_of queue seq)) (id_of queue seq) s.0 refl refl,
 )
 
--- behind the files of a pipe
-pub made_last : (p : SinglePipe) (d e g : Disk) (id : FileId) (f : File) → IsAlone p d → f.seq ≡ p.active.seq + 1 → IsFileSeq id.seq → id ≡ id_of p.queue f.seq → IsMadeAt d e (directories_of_pipe p) id f.path_id → f.handle.0 ≡ d.next
-    → g.names ≡ e.names → AreLast g.names (directories_of_pipe p) p.queue (files_of p ++ f ∷ [])
-made_last p d e g id f alone next below is made handle same =
-    let numbers : AreConsecutive (files_of p) f.seq = subst (AreConsecutive (files_of p)) (sym (last_next p.older.items p.active alone.next alone.numbers) ∙ sym next) alone.numbers in
-    let names : names_then d.names (directories_of_pipe p) p.queue (files_of p) p.active f id alone (in_second p.active p.older.items (p.active ∷ []) (inl refl)) numbers below is made.within ≡ g.names
-    = ap (λ n. d.names ++ (path_in (directories_of_pipe p) f.path_id id, n) ∷ []) handle ∙ sym (ap (λ (y : Disk). y.names) made.is) ∙ sym same in
-    subst (λ (x : Names). AreLast x (directories_of_pipe p) p.queue (files_of p ++ f ∷ [])) names
-    (last_push d.names (directories_of_pipe p) p.queue (files_of p) p.active f id alone (in_second p.active p.older.items (p.active ∷ []) (inl refl)) numbers below is made.within made.free)
-
--- the pipe goes on with it
-pub next_alone : (p : SinglePipe) (d e g : Disk) (older : Vec File Global) (f : File) (w : LogFileWriter) (id : FileId) → older.items ≡ files_of p → f.seq ≡ p.active.seq + 1 → IsFileSeq id.seq → id ≡ id_of p.queue f.seq
-    → IsMadeIn d e (directories_of_pipe p) id (Ok f) → g.names ≡ e.names → IsAlone p d → IsAlone (with_next p older f w) g
-next_alone p d e g older f w id grown next below is made same alone =
-    subst (λ (l : List File). AreLast g.names (directories_of_pipe p) p.queue (l ++ f ∷ [])) (sym grown) (made_last p d e g id f alone next below is made.1 made.0 same)
-
--- or doesn't, and a crash leaves no batches of it
+-- a pipe with other files before its last one
 abbrev pub with_older : SinglePipe → Vec File Global → SinglePipe
 with_older p older = record {
   alloc = p.alloc;
@@ -261,70 +241,32 @@ with_older p older = record {
   older = older;
   active = p.active;
   writer = p.writer;
+  reserved = p.reserved;
+  capacity = p.capacity;
 }
 
-last_named : (p : SinglePipe) (g : Disk) (f : File) → AreLast g.names (directories_of_pipe p) p.queue (files_of p ++ f ∷ []) → IsNamedSo g (id_of p.queue f.seq) f.handle.0
+pub last_named : (p : SinglePipe) (g : Disk) (f : File) → AreLast g.names (directories_of_pipe p) p.queue (files_of p ++ f ∷ []) → IsNamedSo g (id_of p.queue f.seq) f.handle.0
 last_named p g f last = stands_named g (directories_of_pipe p) p.queue f.seq f.path_id f.handle.0 (in_all (λ x. StandsAt g.names (directories_of_pipe p) p.queue x.seq x.path_id x.handle.0) (files_of p ++ f ∷ []) f last.each
     (in_second f (files_of p) (f ∷ []) (inl refl)))
-
-pub nearly_short : (p : SinglePipe) (g : Disk) (f : File) → AreLast g.names (directories_of_pipe p) p.queue (files_of p ++ f ∷ []) → (g.file f.handle.0).greatest ≤ 69 → IsNearlyAlone p g
-nearly_short p g f last short = record {
-  others = f ∷ [];
-  last = last;
-  none = λ image are genuine.
-      (0, ([], [], refl, inr (refl, omega (arith, short, (image_there g image (id_of p.queue f.seq) f.handle.0 (last_named p g f last) are).no_longer)), refl));
-}
-
-pub nearly_begun : (p : SinglePipe) (g : Disk) (f : File) (offset : ℕ) → AreLast g.names (directories_of_pipe p) p.queue (files_of p ++ f ∷ []) → IsStored (id_of p.queue f.seq) f.format [] [] offset (g.file f.handle.0) → IsNearlyAlone p g
-nearly_begun p g f offset last stored = record {
-  others = f ∷ [];
-  last = last;
-  none = leaves_last p.queue [] f g [] [] [] [] [] refl refl refl (last_named p g f last) stored.unsynced;
-}
-
--- it was perhaps made
-pub refused_nearly : (p : SinglePipe) (d e : Disk) (id : FileId) (x : IoFault) → id.seq ≡ p.active.seq + 1 → IsFileSeq id.seq → id.queue ≡ p.queue → IsMadeIn d e (directories_of_pipe p) id (Err x) → IsAlone p d → IsNearlyAlone p e
-refused_nearly p d e id x next below queue (inl same) alone = nearly_on p p d e (refl, refl, refl) refl (ap (λ (y : Disk). y.names) same) alone
-refused_nearly p d e id x next below queue (inr (place, made)) alone =
-    let f : File = record { seq = id.seq; handle = record { 0 = d.next }; format = p.default_format; path_id = place; reserved = false } in
-    nearly_short p e f (made_last p d e e id f alone next below (λ i. record { queue = queue i; seq = id.seq }) made refl refl)
-    (omega (arith, ap (λ (y : Disk). (y.file d.next).greatest) made.is, ap (λ (s : FileState). s.greatest) (same_file d.next no_bytes (d.file d.next))))
-
--- its header was perhaps written
-pub unbegun_nearly : (p : SinglePipe) (d e g : Disk) (id : FileId) (f : File) → f.seq ≡ p.active.seq + 1 → IsFileSeq id.seq → id ≡ id_of p.queue f.seq → IsMadeIn d e (directories_of_pipe p) id (Ok f) → Changes e g f.handle.0
-    → (g.file f.handle.0).greatest ≤ max (e.file f.handle.0).greatest 69 → IsAlone p d → IsNearlyAlone p g
-unbegun_nearly p d e g id f next below is (handle, made) change short alone =
-    let none : (e.file f.handle.0).greatest ≡ 0
-    = ap (λ n. (e.file n).greatest) handle ∙ ap (λ (y : Disk). (y.file d.next).greatest) made.is ∙ ap (λ (s : FileState). s.greatest) (same_file d.next no_bytes (d.file d.next)) in
-    nearly_short p g f (made_last p d e g id f alone next below is made handle (ap (λ (y : Disk). y.names) change)) (omega (arith, short, none))
-
--- it was, and the list of files did not grow
-pub unpushed_nearly : (p : SinglePipe) (d e g : Disk) (older : Vec File Global) (id : FileId) (f : File) (w : LogFileWriter) → older.items ≡ p.older.items → f.seq ≡ p.active.seq + 1 → IsFileSeq id.seq → id ≡ id_of p.queue f.seq → IsPlain f.format
-    → IsMadeIn d e (directories_of_pipe p) id (Ok f) → IsBegun e g f (Ok w) → IsAlone p d → IsNearlyAlone (with_older p older) g
-unpushed_nearly p d e g older id f w same next below is plain (handle, made) begun alone =
-    let last = made_last p d e g id f alone next below is made handle (ap (λ (y : Disk). y.names) (begun_changes e g f w begun)) in
-    let bare : e.file f.handle.0 ≡ no_bytes = ap e.file handle ∙ ap (λ (y : Disk). y.file d.next) made.is ∙ same_file d.next no_bytes (d.file d.next) in
-    let stored = begun_stored e g f p.queue w (new_empty (spelled_header f.format) (e.file f.handle.0) bare) plain begun in
-    nearly_begun (with_older p older) g f w.offset (subst (λ (l : List File). AreLast g.names (directories_of_pipe p) p.queue ((l ++ p.active ∷ []) ++ f ∷ [])) (sym same) last) stored
 
 -- ---- the first file of a queue
 
 pub first_alone : (directories : List Text) (queue : LogQueue) (older : List File) (f : File) (d e g : Disk) (id : FileId) → id ≡ id_of queue f.seq → IsFileSeq id.seq → older ≡ [] → IsMadeIn d e directories id (Ok f) → g.names ≡ e.names
     → AreDistinct directories → IsVacant d.names directories queue → AreLast g.names directories queue (older ++ f ∷ [])
 first_alone directories queue older f d e g id is below none (handle, made) same distinct vacant =
-    let names : with_new d.names directories queue id f.path_id f.handle.0 ≡ g.names
-    = ap (λ n. d.names ++ (path_in directories f.path_id id, n) ∷ []) handle ∙ sym (ap (λ (y : Disk). y.names) made.is) ∙ sym same in
+    let then : Names = d.names ++ (path_in directories f.path_id id, f.handle.0) ∷ [] in
+    let names : then ≡ g.names = ap (λ n. d.names ++ (path_in directories f.path_id id, n) ∷ []) handle ∙ sym (ap (λ (y : Disk). y.names) made.is) ∙ sym same in
     let seq : id.seq ≡ f.seq = ap (λ (x : FileId). x.seq) is in
-    let back = stands_back d.names directories queue id f.path_id f.handle.0 distinct below made.within (ap (λ (x : FileId). x.queue) is) in
+    let back = stands_back d.names then directories queue id f.path_id made.free (λ path x says apart. pushed_other d.names (path_in directories f.path_id id) path f.handle.0 apart) distinct below made.within (ap (λ (x : FileId). x.queue) is) in
     subst (λ (x : Names). AreLast x directories queue (older ++ f ∷ [])) names
-    (subst (λ (l : List File). AreLast (with_new d.names directories queue id f.path_id f.handle.0) directories queue (l ++ f ∷ [])) (sym none) (record {
+    (subst (λ (l : List File). AreLast then directories queue (l ++ f ∷ [])) (sym none) (record {
       next = f.seq + 1;
       numbers = (omega arith, tt);
       each = (
         (
           omega (arith, below, seq),
           made.within,
-          subst (λ (x : FileId). fd_of (with_new d.names directories queue id f.path_id f.handle.0) (path_in directories f.path_id x) ≡ Some f.handle.0) is
+          subst (λ (x : FileId). fd_of then (path_in directories f.path_id x) ≡ Some f.handle.0) is
               (pushed_there d.names (path_in directories f.path_id id) f.handle.0 made.free),
         ),
         tt,

@@ -1,6 +1,7 @@
 -- What a writer makes of the last file of a pipe.
 use Rattle.std.proofs.Common.{◌≡◌, ◌≢◌, ◌⊎◌, inl, inr, ℕ, ◌+◌, ◌-◌, ◌<◌, ◌≤◌, List, [], ◌∷◌, ◌++◌, length, take, refl, sym, ap, subst, ◌∙◌, arith, length-append, Option}
-use Rattle.std.specs.Prelude.{Result, Ok, Err, replicate}
+use Rattle.std.specs.Prelude.{Result, Ok, Err, map, replicate}
+use Rattle.std.specs.String.{string_bytes}
 use Rattle.std.specs.List.{AllByRecursion}
 use Rattle.std.proofs.lemmas.List.{length-replicate, length-take-le, map-append}
 use Rattle.raft_log_records.specs.declared.file_id.FileId.{FileId}
@@ -23,7 +24,8 @@ use Rattle.raft_log_pipe.specs.Begun.{Changes}
 use Rattle.raft_log_pipe.specs.Stored.{IsEnded, IsStored}
 use Rattle.raft_log_pipe.specs.Pipe.{Numbered, numbered, id_of, HoldsIn, Holds, IsPipe, IsPopulated, LeavesIn, IsLast}
 use Rattle.raft_log_pipe.proofs.StoredLemmas.{stored_cut, stored_more, stored_room, stored_synced, stored_within}
-use Rattle.raft_log_pipe.proofs.PipeLemmas.{AreApart, changes, changes_on, file_there, holds_on, holds_synced, leaves_more, leaves_on, named_on, names_kept, stays}
+use Rattle.raft_log_pipe.proofs.PipeLemmas.{AreApart, changes, changes_on, file_there, each_named, holds_on, holds_synced, leaves_more, leaves_on, named_on, names_kept, stays}
+use Rattle.raft_log_pipe.proofs.ReservedLemmas.{reserved_on}
 
 -- ---- cuts
 
@@ -129,6 +131,8 @@ with_writer p w = record {
   older = p.older;
   active = p.active;
   writer = w;
+  reserved = p.reserved;
+  capacity = p.capacity;
 }
 
 pub pipe_on : (p : SinglePipe) (w : LogFileWriter) (d e : Disk) → IsPipe p d → IsWriter w e → w.fd ≡ p.writer.fd → Changes d e p.writer.fd.0 → IsPipe (with_writer p w) e
@@ -145,6 +149,8 @@ pipe_on p w d e pipe writer same change =
       placed = pipe.placed;
       there = subst (λ n. p.active.handle.0 < n) next pipe.there;
       apart = subst (λ n. AllByRecursion (λ f. (f.handle.0 < n) × (f.handle.0 ≢ p.active.handle.0)) p.older.items) next pipe.apart;
+      olders = each_named p.queue d e p.older.items (names_kept d e p.writer.fd.0 change) pipe.olders;
+      reserved = reserved_on p.queue (map string_bytes p.paths.items) d e p.reserved.items (ap (λ (y : Disk). y.names) change) (ap (λ (y : Disk). y.directories) change) pipe.reserved;
     }
 
 pub closed_holds : (p : SinglePipe) (d e : Disk) (to : ℕ) → IsPipe p d → IsClosed {E = IoFault} p.writer d e (Ok tt) → to ≡ p.writer.offset → (s u : Numbered) → Holds p d s u

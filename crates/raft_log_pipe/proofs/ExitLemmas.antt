@@ -1,6 +1,7 @@
 -- What the calls of a pipe make of what it held before: one call after another.
 use Rattle.std.proofs.Common.{◌≡◌, ◌≢◌, ◌⊎◌, inl, inr, ⊎_elim, ℕ, ◌+◌, ◌-◌, ◌<◌, List, [], ◌∷◌, ◌++◌, length, refl, sym, ap, subst, ◌∙◌, arith}
-use Rattle.std.specs.Prelude.{Result, Ok, Err, IfOk, OnOk, OnErr, String}
+use Rattle.std.specs.Prelude.{Result, Ok, Err, IfOk, OnOk, OnErr, String, map}
+use Rattle.std.specs.String.{string_bytes}
 use Rattle.std.specs.declared.alloc.Global.{Global}
 use Rattle.std.proofs.lemmas.List.{append-nil}
 use Rattle.raft_log_records.specs.declared.file_id.FileId.{FileId}
@@ -15,16 +16,15 @@ use Rattle.raft_log_disk.specs.Format.{spelled_header}
 use Rattle.raft_log_files.specs.declared.error.Error.{Error}
 use Rattle.raft_log_file.specs.Laws.{Batch}
 use Rattle.raft_log_file.specs.declared.writer.LogFileWriter.{LogFileWriter}
-use Rattle.raft_log_file.specs.Writer.{IsWriter}
 use Rattle.raft_log_pipe.specs.declared.file.File.{File}
 use Rattle.raft_log_pipe.specs.declared.pipe.SinglePipe.{SinglePipe}
 use Rattle.raft_log_pipe.specs.Appending.{Appends, IsHandle, LeavesAppended}
 use Rattle.raft_log_pipe.specs.Begun.{IsBegun}
 use Rattle.raft_log_pipe.specs.Placing.{IsCreated}
-use Rattle.raft_log_pipe.specs.Stored.{IsEnded}
+use Rattle.raft_log_pipe.specs.Reserved.{AreReserved}
 use Rattle.raft_log_pipe.specs.Pipe.{Numbered, id_of, AreConsecutive, HasPath, Holds, HoldsIn, IsLast, IsNamedSo, IsPipe, IsPlain, Leaves, LeavesIn}
 use Rattle.raft_log_pipe.proofs.PipeLemmas.{holds_leaves, leaves_less, leaves_more}
-use Rattle.raft_log_pipe.proofs.NextLemmas.{IsMade, begun_changes, begun_stored, created_here, made_alone, made_leaves, made_writer, named_new, new_empty, next_holds, next_last}
+use Rattle.raft_log_pipe.proofs.NextLemmas.{begun_changes, begun_stored, created_here, named_new, new_empty, next_last}
 
 -- ---- a new file
 
@@ -32,26 +32,6 @@ use Rattle.raft_log_pipe.proofs.NextLemmas.{IsMade, begun_changes, begun_stored,
 pub last_for : (d : Disk) (dirs : List (String Global)) (id : FileId) (queue : LogQueue) (last : ℕ) → IsLast d dirs queue last → id.queue ≡ queue → id.seq ≡ last + 1 → IsLast d dirs id.queue (id.seq - 1)
 last_for d dirs id queue last l same next path seq lt number has =
     l path seq (omega (arith, lt, next)) number (subst (λ (q : LogQueue). HasPath dirs (id_of q seq) path) same has)
-
--- a file that was perhaps made changes nothing of the pipe
-pub refused_writer : (p : SinglePipe) (d e : Disk) (id : FileId) (x : IoFault) → IsPipe p d → IsCreated d e id (Err x) → IsWriter p.writer e
-refused_writer p d e id x pipe (inl same) = subst (IsWriter p.writer) (sym same) pipe.writer
-refused_writer p d e id x pipe (inr creates) = made_writer p d e id pipe (made_alone d e id creates)
-
-pub refused_leaves : (p : SinglePipe) (d e : Disk) (id : FileId) (x : IoFault) → IsPipe p d → IsCreated d e id (Err x) → (s : Numbered) → Holds p d s [] → LeavesIn p.queue (p.older.items ++ p.active ∷ []) e s []
-refused_leaves p d e id x pipe (inl same) s h =
-    subst (λ (y : Disk). LeavesIn p.queue (p.older.items ++ p.active ∷ []) y s []) (sym same) (holds_leaves p.queue p.older.items p.active p.writer.offset d s [] h)
-refused_leaves p d e id x pipe (inr creates) s h = made_leaves p d e id pipe (made_alone d e id creates) s h
-
--- the list of files did not grow
-pub unpushed_leaves : (p : SinglePipe) (d g : Disk) (id : FileId) (fs : List File) → IsPipe p d → IsMade d g id → fs ≡ p.older.items → (s : Numbered) → Holds p d s [] → LeavesIn p.queue (fs ++ p.active ∷ []) g s []
-unpushed_leaves p d g id fs pipe made same s h = subst (λ (l : List File). LeavesIn p.queue (l ++ p.active ∷ []) g s []) (sym same) (made_leaves p d g id pipe made s h)
-
--- or it did
-pub pushed_holds : (p : SinglePipe) (d e g : Disk) (fs : List File) (f : File) (w : LogFileWriter) (id : FileId) → IsPipe p d → fs ≡ p.older.items ++ p.active ∷ [] → id ≡ id_of p.queue f.seq → IsPlain f.format
-    → IsCreated d e id (Ok f) → IsBegun e g f (Ok w) → IsEnded p.writer.offset (d.file p.active.handle.0) → (s : Numbered) → Holds p d s [] → HoldsIn p.queue fs f w.offset g s []
-pushed_holds p d e g fs f w id pipe grown is plain created begun ended s h =
-    subst (λ (l : List File). HoldsIn p.queue l f w.offset g s []) (sym grown) (next_holds p d e g f w id pipe is plain created begun ended s h)
 
 -- ---- batches that are on the disk by now
 
@@ -138,8 +118,9 @@ rotated_ok (Err x) old new d e all = tt
 -- ---- the first file of a queue
 
 pub first_pipe : (p : SinglePipe) (d e g : Disk) (id : FileId) → id ≡ id_of p.queue p.active.seq → p.active.seq ≡ 1 → p.older.items ≡ [] → 0 < length p.paths.items → IsPlain p.default_format → IsLast d p.paths.items p.queue 0
-    → IsCreated d e id (Ok p.active) → IsBegun e g p.active (Ok p.writer) → p.active.path_id < length p.paths.items → IsPipe p g
-first_pipe p d e g id is first none paths plain last created begun place =
+    → IsCreated d e id (Ok p.active) → IsBegun e g p.active (Ok p.writer) → p.active.path_id < length p.paths.items
+    → p.reserved.items ≡ [] → IsPipe p g
+first_pipe p d e g id is first none paths plain last created begun place bare =
     let change = begun_changes e g p.active p.writer begun in
     let number : g.next ≡ d.next + 1 = ap (λ (y : Disk). y.next) change ∙ ap (λ (y : Disk). y.next) created.1.3 in
     let seq : id.seq ≡ p.active.seq = ap (λ (x : FileId). x.seq) is in
@@ -154,6 +135,8 @@ first_pipe p d e g id is first none paths plain last created begun place =
       placed = subst (λ (l : List File). AllByRecursion (λ x. x.path_id < length p.paths.items) (l ++ p.active ∷ [])) (sym none) (place, tt);
       there = omega (arith, number, created.0);
       apart = subst (λ (l : List File). AllByRecursion (λ x. (x.handle.0 < g.next) × (x.handle.0 ≢ p.active.handle.0)) l) (sym none) tt;
+      olders = subst (λ (l : List File). AllByRecursion (λ x. IsNamedSo g (id_of p.queue x.seq) x.handle.0) l) (sym none) tt;
+      reserved = subst (AreReserved p.queue (map string_bytes p.paths.items) g) (sym bare) tt;
     }
 
 pub first_holds : (queue : LogQueue) (older : List File) (f : File) (w : LogFileWriter) (d e g : Disk) (id : FileId) → id ≡ id_of queue f.seq → older ≡ [] → IsPlain f.format → IsCreated d e id (Ok f) → IsBegun e g f (Ok w)

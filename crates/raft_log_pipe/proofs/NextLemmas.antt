@@ -1,9 +1,8 @@
 -- A new file: its name, its header, and the pipe that goes on with it.
 use Rattle.std.proofs.Common.{◌≡◌, ◌≢◌, ◌⊎◌, inl, inr, ⊎_elim, ℕ, zero, suc, ◌+◌, ◌-◌, ◌<◌, ◌≤◌, ◌^◌, min, max, Bool, true, false, cond, nat_lt, List, [], ◌∷◌, ◌++◌, length, get_or, drop, Option, Some, None, refl, sym, ap, subst, ◌∙◌, arith, append_assoc, length-append}
-use Rattle.std.specs.Prelude.{Result, Ok, Err, String, Vec, replicate, ◌==◌, ◌&&◌}
+use Rattle.std.specs.Prelude.{Result, Ok, Err, String, replicate, ◌==◌, ◌&&◌}
 use Rattle.std.specs.String.{string_bytes}
 use Rattle.std.specs.declared.alloc.Global.{Global}
-use Rattle.std.specs.List.{AllByRecursion}
 use Rattle.std.proofs.lemmas.Bool.{eq-eqb, lt-ltb}
 use Rattle.std.proofs.lemmas.List.{drop_at, length-drop, length-replicate}
 use Rattle.std.proofs.Math.Seq.{get_or-append_seam}
@@ -18,7 +17,6 @@ use Rattle.raft_log_disk.specs.Name.{file_id_of, log_file_of, queued, suffix_of}
 use Rattle.raft_log_disk.specs.Disk.{Disk, FileState, IsIn, after_create, after_sync, after_write, fd_of, filled, no_bytes, put, with_file}
 use Rattle.raft_log_records.specs.declared.version.Version.{Version}
 use Rattle.raft_log_records.specs.declared.version.Version.TheVariants.{V1, V2}
-use Rattle.raft_log_records.proofs.Sound.{each_push}
 use Rattle.raft_log_disk.specs.Format.{header_len, spelled_header}
 use Rattle.raft_log_disk.proofs.DiskLemmas.{other_file, pushed_other, same_file}
 use Rattle.raft_log_files.specs.FileName.{IsFileSeq, log_file_name, suffixed}
@@ -27,13 +25,12 @@ use Rattle.raft_log_file.specs.declared.writer.LogFileWriter.{LogFileWriter}
 use Rattle.raft_log_file.specs.Writer.{IsAppended, IsOpened, IsReady, IsWriter, MakesRoom, Writes, writer_at}
 use Rattle.raft_log_file.proofs.HeaderLemmas.{length-header}
 use Rattle.raft_log_pipe.specs.declared.file.File.{File}
-use Rattle.raft_log_pipe.specs.declared.pipe.SinglePipe.{SinglePipe}
 use Rattle.raft_log_pipe.specs.Begun.{Changes, IsBegun}
 use Rattle.raft_log_pipe.specs.Placing.{Creates, IsCreated}
-use Rattle.raft_log_pipe.specs.Stored.{IsEnded, IsStored}
-use Rattle.raft_log_pipe.specs.Pipe.{Numbered, id_of, AreConsecutive, HasPath, Holds, HoldsIn, IsLast, IsNamedSo, IsPipe, IsPlain, LeavesIn}
+use Rattle.raft_log_pipe.specs.Stored.{IsStored}
+use Rattle.raft_log_pipe.specs.Pipe.{id_of, AreConsecutive, HasPath, IsLast, IsNamedSo, IsPlain}
 use Rattle.raft_log_pipe.proofs.StoredLemmas.{IsNew, stored_begun}
-use Rattle.raft_log_pipe.proofs.PipeLemmas.{AreSame, Keeps, changes, changes_on, file_beside, file_there, holds_beside, holds_leaves, holds_next, names_kept, stays}
+use Rattle.raft_log_pipe.proofs.PipeLemmas.{Keeps, changes, changes_on, file_beside, file_there, names_kept, stays}
 use Rattle.raft_log_pipe.proofs.ChangeLemmas.{appended_changes, synced_writer}
 
 -- ---- names
@@ -127,30 +124,6 @@ made_beside d g id n made below =
 made_keeps : (d g : Disk) (id : FileId) → IsMade d g id → Keeps d g
 made_keeps d g id made x there = names_kept made.between g d.next made.change x (created_keeps d made.between id made.creates x there)
 
-made_same : (d g : Disk) (id : FileId) (fd : ℕ) (fs : List File) → IsMade d g id → AllByRecursion (λ f. (f.handle.0 < d.next) × (f.handle.0 ≢ fd)) fs → AreSame d g fs
-made_same d g id fd [] made all = tt
-made_same d g id fd (f ∷ fs) made all = (made_beside d g id f.handle.0 made all.0.0, made_same d g id fd fs made all.1)
-
--- a pipe holds what it held
-pub made_holds : (p : SinglePipe) (d g : Disk) (id : FileId) → IsPipe p d → IsMade d g id → (s u : Numbered) → Holds p d s u → Holds p g s u
-made_holds p d g id pipe made s u h =
-    holds_beside p.queue p.older.items p.active p.writer.offset d g s u (made_keeps d g id made) (made_same d g id p.active.handle.0 p.older.items made pipe.apart)
-    (made_beside d g id p.active.handle.0 made pipe.there) h
-
-pub made_leaves : (p : SinglePipe) (d g : Disk) (id : FileId) → IsPipe p d → IsMade d g id → (s : Numbered) → Holds p d s [] → LeavesIn p.queue (p.older.items ++ p.active ∷ []) g s []
-made_leaves p d g id pipe made s h = holds_leaves p.queue p.older.items p.active p.writer.offset g s [] (made_holds p d g id pipe made s [] h)
-
-pub made_writer : (p : SinglePipe) (d g : Disk) (id : FileId) → IsPipe p d → IsMade d g id → IsWriter p.writer g
-made_writer p d g id pipe made =
-    let fd : p.writer.fd.0 ≡ p.active.handle.0 = ap (λ h. h.0) pipe.handle in
-    let same : g.file p.writer.fd.0 ≡ d.file p.writer.fd.0 = made_beside d g id p.writer.fd.0 made (omega (arith, fd, pipe.there)) in
-    record {
-      offset = pipe.writer.offset;
-      reached = pipe.writer.reached;
-      long = omega (arith, pipe.writer.long, ap (λ (f : FileState). length f.bytes) same);
-      within = λ below. omega (arith, pipe.writer.within below, ap (λ (f : FileState). length f.bytes) same);
-    }
-
 -- ---- the header of a new file
 
 pub opened_changes : (d e : Disk) (fd : ℕ) (format : LogFileFormat) (r : Result LogFileWriter IoFault) → IsOpened d e fd format true r → Changes d e fd
@@ -199,7 +172,7 @@ new_empty header f is = inl (ap (λ (x : FileState). x.earlier) is, ap (λ (x : 
 abbrev IsShort : Disk → Disk → ℕ → Type 0
 IsShort d e fd = (e.file fd).greatest ≤ max (d.file fd).greatest 69
 
-header_short : (format : LogFileFormat) → length (spelled_header format) ≤ 69
+pub header_short : (format : LogFileFormat) → length (spelled_header format) ≤ 69
 header_short format = omega (arith, length-header format, by_version format.version)
   where
     by_version : (v : Version) → header_len v ≤ 69
@@ -286,18 +259,6 @@ pub named_new : (d e g : Disk) (f : File) (id : FileId) → IsCreated d e id (Ok
 named_new d e g f id (handle, (path, says, none, is)) change =
     (path, names_kept e g f.handle.0 change (path, f.handle.0) (subst (λ (y : Disk). IsIn (path, f.handle.0) y.names) (sym is) (subst (λ n. IsIn (path, f.handle.0) (d.names ++ (path, n) ∷ [])) handle (in_last d.names (path, f.handle.0)))), says)
 
--- the batches of a pipe that goes on with a new file
-pub next_holds : (p : SinglePipe) (d e g : Disk) (f : File) (w : LogFileWriter) (id : FileId) → IsPipe p d → id ≡ id_of p.queue f.seq → IsPlain f.format → IsCreated d e id (Ok f) → IsBegun e g f (Ok w)
-    → IsEnded p.writer.offset (d.file p.active.handle.0) → (s : Numbered) → Holds p d s [] → HoldsIn p.queue (p.older.items ++ p.active ∷ []) f w.offset g s []
-next_holds p d e g f w id pipe is plain created begun ended s h =
-    let change = begun_changes e g f w begun in
-    let made = made_begun d e g f id created change in
-    let empty = new_empty (spelled_header f.format) (e.file f.handle.0) (subst (λ n. e.file n ≡ no_bytes) (sym created.0) (created_here d e id created.1)) in
-    holds_next p.queue p.older.items p.active f p.writer.offset w.offset g s (made_holds p d g id pipe made s [] h)
-    (subst (IsEnded p.writer.offset) (sym (made_beside d g id p.active.handle.0 made pipe.there)) ended)
-    (subst (λ (x : FileId). IsNamedSo g x f.handle.0) is (named_new d e g f id created change))
-    (begun_stored e g f p.queue w empty plain begun)
-
 -- ---- the pipe can be used
 
 pub consecutive_push : (fs : List File) (f : File) → AreConsecutive fs f.seq → AreConsecutive (fs ++ f ∷ []) (f.seq + 1)
@@ -323,40 +284,3 @@ next_last d e g dirs f id queue last free below same (handle, (path, says, none,
     ap (λ (y : Disk). fd_of y.names other) change ∙ ap (λ (y : Disk). fd_of y.names other) is
     ∙ pushed_other d.names path other d.next (apart_paths path other id queue seq (same_text path other) refl says tells (omega (arith, lt, same)))
     ∙ free other seq (omega (arith, below, same, lt)) number has
-
-all_next : (n m fd : ℕ) (fs : List File) (f : File) → AllByRecursion (λ x. (x.handle.0 < n) × (x.handle.0 ≢ fd)) fs → f.handle.0 < n → n < m → AllByRecursion (λ x. (x.handle.0 < m) × (x.handle.0 ≢ n)) (fs ++ f ∷ [])
-all_next n m fd [] f all below more = ((omega (arith, below, more), λ e. absurd (omega (arith, below, e))), tt)
-all_next n m fd (g ∷ fs) f all below more = ((omega (arith, all.0.0, more), λ e. absurd (omega (arith, all.0.0, e))), all_next n m fd fs f all.1 below more)
-
--- the pipe goes on with a new file
-abbrev pub with_next : SinglePipe → Vec File Global → File → LogFileWriter → SinglePipe
-with_next p older f w = record {
-  alloc = p.alloc;
-  queue = p.queue;
-  paths = p.paths;
-  default_format = p.default_format;
-  target_file_size = p.target_file_size;
-  older = older;
-  active = f;
-  writer = w;
-}
-
-pub next_pipe : (p : SinglePipe) (d e g : Disk) (older : Vec File Global) (f : File) (w : LogFileWriter) (id : FileId) → IsPipe p d → older.items ≡ p.older.items ++ p.active ∷ [] → id.queue ≡ p.queue → id.seq ≡ f.seq → f.seq ≡ p.active.seq + 1
-    → IsCreated d e id (Ok f) → IsBegun e g f (Ok w) → f.path_id < length p.paths.items → IsPipe (with_next p older f w) g
-next_pipe p d e g older f w id pipe is queue same next created begun place =
-    let change = begun_changes e g f w begun in
-    let number : g.next ≡ d.next + 1 = ap (λ (y : Disk). y.next) change ∙ ap (λ (y : Disk). y.next) created.1.3 in
-    record {
-      writer = begun.3;
-      handle = begun.4;
-      plain = pipe.plain;
-      paths = pipe.paths;
-      numbers = subst (λ (l : List File). AreConsecutive l f.seq) (sym is) (subst (AreConsecutive (p.older.items ++ p.active ∷ [])) (sym next) (consecutive_push p.older.items p.active pipe.numbers));
-      last = next_last d e g p.paths.items f id p.queue p.active.seq pipe.last (omega (arith, same, next)) same created change;
-      named = subst (λ (x : FileId). IsNamedSo g x f.handle.0) (λ i. record { queue = queue i; seq = same i }) (named_new d e g f id created change);
-      placed = subst (λ (l : List File). AllByRecursion (λ x. x.path_id < length p.paths.items) (l ++ f ∷ [])) (sym is) (each_push (λ x. x.path_id < length p.paths.items) (p.older.items ++ p.active ∷ []) f pipe.placed place);
-      there = omega (arith, number, created.0);
-      apart = subst (λ (l : List File). AllByRecursion (λ x. (x.handle.0 < g.next) × (x.handle.0 ≢ f.handle.0)) l) (sym is)
-          (subst (λ n. AllByRecursion (λ x. (x.handle.0 < g.next) × (x.handle.0 ≢ n)) (p.older.items ++ p.active ∷ [])) (sym created.0)
-          (all_next d.next g.next p.active.handle.0 p.older.items p.active pipe.apart pipe.there (omega (arith, number))));
-    }

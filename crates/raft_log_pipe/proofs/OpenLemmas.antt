@@ -1,6 +1,7 @@
 -- The files that were found: what makes them a pipe.
 use Rattle.std.proofs.Common.{◌≡◌, ◌≢◌, inl, inr, ℕ, ◌<◌, ◌≤◌, true, false, List, [], ◌∷◌, ◌++◌, length, refl, sym, ap, subst, ◌∙◌, arith, length-append}
-use Rattle.std.specs.Prelude.{Ok, Err, String}
+use Rattle.std.specs.Prelude.{Ok, Err, String, map}
+use Rattle.std.specs.String.{string_bytes}
 use Rattle.std.specs.declared.alloc.Global.{Global}
 use Rattle.std.specs.List.{AllByRecursion}
 use Rattle.std.proofs.lemmas.Bool.{ltb-true}
@@ -25,7 +26,9 @@ use Rattle.raft_log_pipe.specs.Begun.{Changes}
 use Rattle.raft_log_pipe.specs.Found.{IsFound, IsResumed, IsWhole, KeepsButHeader}
 use Rattle.raft_log_pipe.specs.Stored.{IsStored}
 use Rattle.raft_log_pipe.specs.Pipe.{Numbered, numbered, id_of, AreConsecutive, AreOlder, HoldsIn, IsLast, IsNamedSo, IsPipe, IsPlain}
-use Rattle.raft_log_pipe.proofs.PipeLemmas.{names_kept, named_on, olders_on, same_beside, stays}
+use Rattle.raft_log_pipe.specs.Reserved.{AreReserved}
+use Rattle.raft_log_pipe.proofs.ReservedLemmas.{reserved_on}
+use Rattle.raft_log_pipe.proofs.PipeLemmas.{each_named, names_kept, named_on, olders_on, same_beside, stays}
 use Rattle.raft_log_pipe.proofs.NextLemmas.{begun_changes, begun_short, begun_stored, some_is}
 use Rattle.raft_log_pipe.proofs.ChangeLemmas.{apart_of}
 
@@ -160,8 +163,13 @@ resumed_on d e queue active ks w (inr blank) (inr (some, opened, writer, handle)
 
 -- ---- the pipe
 
-pub opened_pipe : (p : SinglePipe) (d e : Disk) (bs : Numbered) → IsNamed d → IsFoundSo p.queue p.paths.items d p.older.items p.active bs → IsResumed d e p.active (Ok p.writer) → 0 < length p.paths.items → IsPlain p.default_format → IsPipe p e
-opened_pipe p d e bs named found resumed paths plain =
+olders_named : (queue : LogQueue) (d : Disk) (fs : List File) (bs : Numbered) → AreOlder queue d fs bs → AllByRecursion (λ f. IsNamedSo d (id_of queue f.seq) f.handle.0) fs
+olders_named queue d [] bs os = tt
+olders_named queue d (f ∷ fs) bs (ks, rest, is, o, os) = (o.named, olders_named queue d fs rest os)
+
+pub opened_pipe : (p : SinglePipe) (d e : Disk) (bs : Numbered) → IsNamed d → IsFoundSo p.queue p.paths.items d p.older.items p.active bs → IsResumed d e p.active (Ok p.writer) → 0 < length p.paths.items → IsPlain p.default_format
+    → AreReserved p.queue (map string_bytes p.paths.items) d p.reserved.items → IsPipe p e
+opened_pipe p d e bs named found resumed paths plain reserved =
     let on = resumed_on d e p.queue p.active found.ks p.writer found.whole resumed in
     let next : d.next ≡ e.next = sym (ap (λ (y : Disk). y.next) on.change) in
     record {
@@ -175,6 +183,8 @@ opened_pipe p d e bs named found resumed paths plain =
       placed = found.placed;
       there = subst (λ n. p.active.handle.0 < n) next (named_below d (id_of p.queue p.active.seq) p.active.handle.0 named found.named);
       apart = subst (λ n. AllByRecursion (λ f. (f.handle.0 < n) × (f.handle.0 ≢ p.active.handle.0)) p.older.items) next (olders_apart p.queue d p.older.items p.active found.before named found.numbers found.olders found.named);
+      olders = each_named p.queue d e p.older.items (names_kept d e p.active.handle.0 on.change) (olders_named p.queue d p.older.items found.before found.olders);
+      reserved = reserved_on p.queue (map string_bytes p.paths.items) d e p.reserved.items (ap (λ (y : Disk). y.names) on.change) (ap (λ (y : Disk). y.directories) on.change) reserved;
     }
 
 pub opened_holds : (queue : LogQueue) (dirs : List (String Global)) (older : List File) (active : File) (w : LogFileWriter) (d e : Disk) (bs : Numbered) → IsNamed d → IsFoundSo queue dirs d older active bs → IsResumed d e active (Ok w) → HoldsIn queue older active w.offset e bs []

@@ -1,32 +1,34 @@
 -- What calls on one queue leave of the others.
-use Rattle.std.proofs.Common.{◌≡◌, ◌≢◌, ◌⊎◌, inl, inr, ⊎_elim, ℕ, ◌+◌, ◌<◌, ◌≤◌, Bool, true, false, cond, nat_lt, List, [], ◌∷◌, ◌++◌, length, get_or, Option, Some, None, refl, sym, ap, subst, ◌∙◌, arith}
+use Rattle.std.proofs.Common.{◌≡◌, ◌≢◌, inl, inr, ⊎_elim, ℕ, ◌<◌, Bool, true, false, cond, List, [], ◌∷◌, ◌++◌, length, get_or, Some, None, refl, sym, ap, subst, ◌∙◌, arith}
 use Rattle.std.specs.Prelude.{Err}
 use Rattle.std.specs.List.{AllByRecursion}
 use Rattle.std.proofs.lemmas.Bool.{ltb-true}
 use lib.Pointwise.{bytes_decides}
 use Rattle.raft_log_records.specs.declared.file_id.FileId.{FileId}
 use Rattle.raft_log_records.specs.declared.file_id.LogQueue.{LogQueue}
-use Rattle.raft_log_file.specs.Laws.{Batch}
 use Rattle.raft_log_disk.specs.declared.fault.IoFault.{IoFault}
 use Rattle.raft_log_disk.specs.Text.{Text, same_text}
 use Rattle.raft_log_disk.specs.Name.{log_file_of}
-use Rattle.raft_log_disk.specs.Disk.{Disk, FileState, IsIn, IsNamed, after_create, are_named, fd_of, no_bytes}
+use Rattle.raft_log_disk.specs.Disk.{Disk, FileState, IsIn, IsNamed, are_named, fd_of, no_bytes}
 use Rattle.raft_log_disk.proofs.DiskLemmas.{other_file}
 use Rattle.raft_log_disk.proofs.NamedLemmas.{in_other, named_first}
-use Rattle.raft_log_files.specs.FileName.{IsFileSeq, log_file_name}
+use Rattle.raft_log_files.specs.FileName.{log_file_name}
 use Rattle.raft_log_pipe.specs.declared.file.File.{File}
+use Rattle.raft_log_pipe.specs.declared.file.ReservedFile.{ReservedFile}
 use Rattle.raft_log_pipe.specs.declared.pipe.SinglePipe.{SinglePipe}
 use Rattle.raft_log_pipe.specs.Alone.{AreLast, IsAlone, IsOnce, Names, StandsAt, directories_of_pipe, path_in}
 use Rattle.raft_log_pipe.specs.Begun.{Changes}
 use Rattle.raft_log_pipe.specs.Blocks.{files_of}
 use Rattle.raft_log_pipe.specs.Others.{IsOther, KeepsOthers}
-use Rattle.raft_log_pipe.specs.Pipe.{Numbered, numbered, id_of, AreOlder, HoldsIn, Holds, IsBlank, IsNamedSo, IsPipe}
+use Rattle.raft_log_pipe.specs.Pipe.{Numbered, id_of, Holds, IsNamedSo, IsPipe}
 use Rattle.raft_log_pipe.specs.Placing.{IsCreated}
 use Rattle.raft_log_pipe.specs.Purging.{KeepsFrom}
-use Rattle.raft_log_pipe.specs.Stored.{IsEnded, IsStored}
 use Rattle.raft_log_pipe.proofs.AloneLemmas.{found_in, in_either, in_first, never_some}
+use Rattle.raft_log_pipe.specs.Reserved.{IsReserved, reserved_path}
+use Rattle.raft_log_pipe.proofs.KeptLemmas.{holds_kept, names_still, writer_same}
+use Rattle.raft_log_pipe.proofs.ReservedLemmas.{reserved_kept, reserved_no_log, reserved_none, reserved_own, says_none}
 use Rattle.raft_log_pipe.proofs.NextLemmas.{IsMade, has_path_says, made_alone, path_says, some_is}
-use Rattle.raft_log_pipe.proofs.PipeLemmas.{file_beside, stays}
+use Rattle.raft_log_pipe.proofs.PipeLemmas.{file_beside}
 use Rattle.raft_log_pipe.proofs.PurgeLemmas.{is_found}
 
 -- ---- names that are each of one file
@@ -84,7 +86,7 @@ pub change_others : (queue : LogQueue) (d e : Disk) (seq fd : ℕ) → IsNamed d
 change_others queue d e seq fd named (own, here, says) change = record {
   stay = λ path n other there. (
     subst (λ (y : Disk). IsIn (path, n) y.names) (sym change) there,
-    file_beside d e fd n change (λ same. other seq (ap log_file_of (one_path d.names d.next path own fd named (subst (λ m. IsIn (path, m) d.names) same there) here) ∙ says)),
+    file_beside d e fd n change (λ same. other.0 seq (ap log_file_of (one_path d.names d.next path own fd named (subst (λ m. IsIn (path, m) d.names) same there) here) ∙ says)),
   );
   none = λ path n other there. subst (λ (y : Disk). IsIn (path, n) y.names) change there;
   next = omega (arith, ap (λ (y : Disk). y.next) change);
@@ -117,7 +119,7 @@ made_others queue d g id named made is =
     }
   where
     is_own : (path : Text) (n : ℕ) → IsOther queue path → IsIn {X = Text × ℕ} (path, n) ((made.creates.0, d.next) ∷ []) → ⊥
-    is_own path n other (inl same) = other id.seq (ap (λ (x : Text × ℕ). log_file_of x.0) same ∙ made.creates.1 ∙ (λ i. Some (record { queue = is i; seq = id.seq })))
+    is_own path n other (inl same) = other.0 id.seq (ap (λ (x : Text × ℕ). log_file_of x.0) same ∙ made.creates.1 ∙ (λ i. Some (record { queue = is i; seq = id.seq })))
     is_own path n other (inr none) = none
 
 -- or perhaps was
@@ -129,19 +131,32 @@ refused_others queue d e id x named (inr creates) is = made_others queue d e id 
 pub gone_others : (queue : LogQueue) (seq : ℕ) (d e : Disk) → KeepsFrom queue seq d e → KeepsOthers queue d e
 gone_others queue seq d e keeps = record {
   stay = λ path fd other there. ⊎_elim
-      (λ left. (left, (keeps.files path fd left).1))
-      (λ (n, lt, says). absurd (other n says))
+      (λ left. (left, (other_kept path fd other left).1))
+      (λ (n, lt, says). absurd (other.0 n says))
       (keeps.names path fd there);
-  none = λ path fd other there. (keeps.files path fd there).0;
+  none = λ path fd other there. (other_kept path fd other there).0;
   next = omega (arith, keeps.next);
   directories = keeps.directories;
 }
+  where
+    other_kept : (path : Text) (fd : ℕ) → IsOther queue path → IsIn (path, fd) e.names → IsIn (path, fd) d.names × (e.file fd ≡ d.file fd)
+    other_kept path fd other there = ⊎_elim (λ left. left) (λ kept. absurd (other.1 kept.reserved)) (keeps.files path fd there)
 
 -- ---- the pipe of another queue
 
 -- a log file of another queue
 pub of_another : (queue other : LogQueue) (path : Text) (n : ℕ) → (other ≡ queue → ⊥) → log_file_of path ≡ Some (id_of other n) → IsOther queue path
-of_another queue other path n apart says seq own = apart (ap (λ (x : FileId). x.queue) (some_is (id_of other n) (id_of queue seq) (sym says ∙ own)))
+of_another queue other path n apart says = (
+  (λ seq own. apart (ap (λ (x : FileId). x.queue) (some_is (id_of other n) (id_of queue seq) (sym says ∙ own)))),
+  λ kept. says_none path (id_of other n) (reserved_none queue path kept) says,
+)
+
+-- a reserved file of another queue
+reserved_other : (queue own : LogQueue) (directories : List Text) (d : Disk) (f : ReservedFile) → (own ≡ queue → ⊥) → IsReserved own directories d f → IsOther queue (reserved_path directories f.path_id f.seq)
+reserved_other queue own directories d f apart is = (
+  (λ seq says. says_none (reserved_path directories f.path_id f.seq) (id_of queue seq) (reserved_no_log own directories d f is) says),
+  λ kept. apart (is.own ∙ sym (reserved_own queue (reserved_path directories f.path_id f.seq) kept)),
+)
 
 module _ (queue own : LogQueue) (d e : Disk) (apart : own ≡ queue → ⊥) (keeps : KeepsOthers queue d e) where
   pub named_beside : (n fd : ℕ) → IsNamedSo d (id_of own n) fd → IsNamedSo e (id_of own n) fd × (e.file fd ≡ d.file fd)
@@ -190,36 +205,6 @@ module _ (queue own : LogQueue) (d e : Disk) (apart : own ≡ queue → ⊥) (ke
     only = λ seq place fd f s among le. last.only seq place fd f (stands_back_beside directories seq place fd old s) among le;
   }
 
-  olders_beside : (fs : List File) (bs : Numbered) → AreOlder own d fs bs → AreOlder own e fs bs
-  olders_beside [] bs os = os
-  olders_beside (f ∷ fs) bs (ks, rest, is, o, os) =
-      let now = named_beside f.seq f.handle.0 o.named in (
-        ks,
-        rest,
-        is,
-        record {
-          offset = o.offset;
-          named = now.0;
-          stored = subst (λ (x : FileState). IsStored (id_of own f.seq) f.format ks [] o.offset x ⊎ IsBlank f.format ks x) (sym now.1) o.stored;
-          ended = subst (IsEnded o.offset) (sym now.1) o.ended;
-        },
-        olders_beside fs rest os,
-      )
-
-  holds_in_beside : (fs : List File) (active : File) (offset : ℕ) (s u : Numbered) → HoldsIn own fs active offset d s u → HoldsIn own fs active offset e s u
-  holds_in_beside fs active offset s u h =
-      let last = named_beside active.seq active.handle.0 h.named in
-      record {
-        before = h.before;
-        ks = h.ks;
-        us = h.us;
-        synced_are = h.synced_are;
-        unsynced_are = h.unsynced_are;
-        olders = olders_beside fs h.before h.olders;
-        named = last.0;
-        stored = subst (IsStored (id_of own active.seq) active.format h.ks h.us offset) (sym last.1) h.stored;
-      }
-
   apart_beside : (fd : ℕ) (fs : List File) → AllByRecursion (λ f. (f.handle.0 < d.next) × (f.handle.0 ≢ fd)) fs → AllByRecursion (λ f. (f.handle.0 < e.next) × (f.handle.0 ≢ fd)) fs
   apart_beside fd [] all = tt
   apart_beside fd (f ∷ fs) all = ((omega (arith, all.0.0, keeps.next), all.0.1), apart_beside fd fs all.1)
@@ -230,12 +215,7 @@ module _ (queue : LogQueue) (p : SinglePipe) (d e : Disk) (apart : p.queue ≡ q
       let last = named_beside queue p.queue d e apart keeps p.active.seq p.active.handle.0 pipe.named in
       let fd : p.writer.fd.0 ≡ p.active.handle.0 = ap (λ h. h.0) pipe.handle in
       record {
-        writer = record {
-          offset = pipe.writer.offset;
-          reached = pipe.writer.reached;
-          long = omega (arith, pipe.writer.long, ap (λ (x : FileState). length x.bytes) (ap e.file fd ∙ last.1 ∙ sym (ap d.file fd)));
-          within = λ below. omega (arith, pipe.writer.within below, ap (λ (x : FileState). length x.bytes) (ap e.file fd ∙ last.1 ∙ sym (ap d.file fd)));
-        };
+        writer = writer_same p.writer d e (ap (λ (x : FileState). length x.bytes) (ap e.file fd ∙ last.1 ∙ sym (ap d.file fd))) pipe.writer;
         handle = pipe.handle;
         plain = pipe.plain;
         paths = pipe.paths;
@@ -245,10 +225,13 @@ module _ (queue : LogQueue) (p : SinglePipe) (d e : Disk) (apart : p.queue ≡ q
         placed = pipe.placed;
         there = omega (arith, pipe.there, keeps.next);
         apart = apart_beside queue p.queue d e apart keeps p.active.handle.0 p.older.items pipe.apart;
+        olders = names_still p.queue d e (named_beside queue p.queue d e apart keeps) p.older.items pipe.olders;
+        reserved = reserved_kept p.queue (directories_of_pipe p) d e p.reserved.items
+            (λ f is. (keeps.stay (reserved_path (directories_of_pipe p) f.path_id f.seq) is.fd (reserved_other queue p.queue (directories_of_pipe p) d f apart is) is.there).0) keeps.directories pipe.reserved;
       }
 
   pub pipe_holds_beside : (s u : Numbered) → Holds p d s u → Holds p e s u
-  pipe_holds_beside s u h = holds_in_beside queue p.queue d e apart keeps p.older.items p.active p.writer.offset s u h
+  pipe_holds_beside s u h = holds_kept p.queue d e (named_beside queue p.queue d e apart keeps) p.older.items p.active p.writer.offset s u h
 
   pub alone_beside : IsNamed d → IsNamed e → IsAlone p d → IsAlone p e
   alone_beside old new alone = last_beside queue p.queue d e apart keeps (directories_of_pipe p) (files_of p) old new alone

@@ -55,6 +55,10 @@ names_kept d e fd change x there = subst (λ (y : Disk). IsIn x y.names) (sym ch
 pub named_on : (d e : Disk) (id : FileId) (fd : ℕ) → Keeps d e → IsNamedSo d id fd → IsNamedSo e id fd
 named_on d e id fd keeps named = (named.0, keeps (named.0, fd) named.1, named.2)
 
+pub each_named : (queue : LogQueue) (d e : Disk) (fs : List File) → Keeps d e → AllByRecursion (λ f. IsNamedSo d (id_of queue f.seq) f.handle.0) fs → AllByRecursion (λ f. IsNamedSo e (id_of queue f.seq) f.handle.0) fs
+each_named queue d e [] keeps all = tt
+each_named queue d e (f ∷ fs) keeps all = (named_on d e (id_of queue f.seq) f.handle.0 keeps all.0, each_named queue d e fs keeps all.1)
+
 -- the files are as they were
 abbrev pub AreSame : Disk → Disk → List File → Type 0
 AreSame d e fs = AllByRecursion (λ f. e.file f.handle.0 ≡ d.file f.handle.0) fs

@@ -1,6 +1,6 @@
 -- Files of a pipe that go: what is left of the disk, and of the pipe.
 use Rattle.std.proofs.Common.{◌≡◌, ◌≢◌, ◌⊎◌, inl, inr, ⊎_elim, ℕ, zero, suc, ◌+◌, ◌-◌, ◌^◌, ◌<◌, ◌≤◌, Bool, true, false, cond, nat_lt, List, [], ◌∷◌, ◌++◌, length, get_or, take, drop, Option, Some, None, refl, sym, ap, subst, ◌∙◌, arith, length-drop, length-take}
-use Rattle.std.specs.Prelude.{String, Vec, remove, ◌==◌, ◌&&◌}
+use Rattle.std.specs.Prelude.{String, Vec, map, remove, ◌==◌, ◌&&◌}
 use Rattle.std.specs.String.{string_bytes}
 use Rattle.std.specs.declared.alloc.Global.{Global}
 use Rattle.std.specs.List.{AllByRecursion, list_all}
@@ -11,7 +11,7 @@ use Rattle.raft_log_records.specs.declared.file_id.FileId.{FileId}
 use Rattle.raft_log_records.specs.declared.file_id.LogQueue.{LogQueue}
 use Rattle.raft_log_records.specs.declared.file_id.LogQueue.TheVariants.{Append, Rewrite}
 use Rattle.raft_log_disk.specs.Text.{Text, same_text}
-use Rattle.raft_log_disk.specs.Disk.{Disk, FileState, IsIn, IsNamed, Deletes, are_named, fd_of, no_bytes, without}
+use Rattle.raft_log_disk.specs.Disk.{Disk, FileState, IsIn, IsNamed, Deletes, are_named, fd_of, no_bytes, renamed, without}
 use Rattle.raft_log_disk.specs.Name.{file_id_of, is_digit, log_file_of, queued, suffix_of, value_of}
 use Rattle.raft_log_disk.proofs.DigitLemmas.{value_of-lt}
 use Rattle.raft_log_disk.proofs.DiskLemmas.{other_file, without_gone}
@@ -20,10 +20,12 @@ use Rattle.raft_log_files.specs.FileName.{IsFileSeq, log_file_name}
 use Rattle.raft_log_file.specs.Laws.{Batch}
 use Rattle.raft_log_pipe.specs.declared.file.File.{File}
 use Rattle.raft_log_pipe.specs.declared.pipe.SinglePipe.{SinglePipe}
-use Rattle.raft_log_pipe.specs.Purging.{AreLastOf, AreGone, HoldsRest, IsGone, KeepsFrom, from_file}
+use Rattle.raft_log_pipe.specs.Purging.{AreLastOf, AreGone, HoldsRest, IsGone, IsKeptFile, KeepsFrom, from_file}
 use Rattle.raft_log_pipe.specs.Stored.{IsEnded, IsStored}
-use Rattle.raft_log_pipe.specs.Pipe.{Numbered, numbered, id_of, first_of, AreConsecutive, AreOlder, Holds, HoldsIn, IsBlank, IsNamedSo, IsPipe}
-use Rattle.raft_log_pipe.proofs.NextLemmas.{some_is}
+use Rattle.raft_log_pipe.specs.Pipe.{Numbered, numbered, id_of, first_of, AreConsecutive, AreOlder, HasPath, Holds, HoldsIn, IsBlank, IsNamedSo, IsPipe}
+use Rattle.raft_log_pipe.specs.Reserved.{reserved_path}
+use Rattle.raft_log_pipe.proofs.NextLemmas.{path_says, some_is}
+use Rattle.raft_log_pipe.proofs.ReservedLemmas.{reserved_kept, reserved_no_log, reserved_none, says_none}
 use Rattle.raft_log_pipe.specs.Blocks.{files_of}
 use Rattle.raft_log_pipe.proofs.BlockLemmas.{in_last, long_span, older_below}
 use Rattle.raft_log_pipe.proofs.AloneLemmas.{found_in, never_some, with_older}
@@ -96,7 +98,7 @@ is_found (e ∷ es) path fd there none = not_step (same_text e.0 path) e es path
 pub same_keeps : (queue : LogQueue) (seq : ℕ) (d e : Disk) → e ≡ d → KeepsFrom queue seq d e
 same_keeps queue seq d e same = record {
   names = λ path fd there. inl (subst (λ (y : Disk). IsIn (path, fd) y.names) (sym same) there);
-  files = λ path fd there. (subst (λ (y : Disk). IsIn (path, fd) y.names) same there, ap (λ (y : Disk). y.file fd) same);
+  files = λ path fd there. inl (subst (λ (y : Disk). IsIn (path, fd) y.names) same there, ap (λ (y : Disk). y.file fd) same);
   next = ap (λ (y : Disk). y.next) same;
   directories = ap (λ (y : Disk). y.directories) same;
 }
@@ -108,13 +110,20 @@ deleted_keeps queue n seq d e path named says lt (fd, found, is) = record {
       (λ same. inr (n, lt, ap log_file_of same ∙ says))
       (in_without d.names (other, number) path there);
   files = λ other number there.
-      let left : IsIn (other, number) (without d.names path) = subst (λ (y : Disk). IsIn (other, number) y.names) is there in (
+      let left : IsIn (other, number) (without d.names path) = subst (λ (y : Disk). IsIn (other, number) y.names) is there in inl (
         without_in d.names (other, number) path left,
         ap (λ (y : Disk). y.file number) is ∙ other_file number fd no_bytes (d.file number) (without_apart d.names (other, number) path d.next fd named found left),
       );
   next = ap (λ (y : Disk). y.next) is;
   directories = ap (λ (y : Disk). y.directories) is;
 }
+
+pub deleted_fresh : (d e : Disk) (path other : Text) (number : ℕ) → Deletes d e path → IsIn (other, number) e.names → IsIn (other, number) d.names
+deleted_fresh d e path other number (fd, found, is) there = without_in d.names (other, number) path (subst (λ (y : Disk). IsIn (other, number) y.names) is there)
+
+-- a log file was where it is, and is as it was
+pub log_kept : (queue : LogQueue) (seq : ℕ) (d e : Disk) (path : Text) (id : FileId) (fd : ℕ) → KeepsFrom queue seq d e → log_file_of path ≡ Some id → IsIn (path, fd) e.names → IsIn (path, fd) d.names × (e.file fd ≡ d.file fd)
+log_kept queue seq d e path id fd keeps says there = ⊎_elim (λ left. left) (λ kept. absurd (says_none path id (reserved_none queue path kept.reserved) says)) (keeps.files path fd there)
 
 -- after one call and another
 pub keeps_on : (queue : LogQueue) (a b : ℕ) (d e g : Disk) → a ≤ b → KeepsFrom queue a d e → KeepsFrom queue b e g → KeepsFrom queue b d g
@@ -123,13 +132,38 @@ keeps_on queue a b d e g le one two = record {
       (λ h. two.names path fd h)
       (λ (m, lt, says). inr (m, omega (arith, lt, le), says))
       (one.names path fd there);
-  files = λ path fd there. let late = two.files path fd there in let early = one.files path fd late.0 in (early.0, late.1 ∙ early.1);
+  files = λ path fd there. ⊎_elim (λ late. by_early path fd late.1 (one.files path fd late.0)) (λ late. inr (by_late path fd late)) (two.files path fd there);
   next = two.next ∙ one.next;
   directories = two.directories ∙ one.directories;
 }
+  where
+    by_early : (path : Text) (fd : ℕ) → g.file fd ≡ e.file fd → (IsIn (path, fd) d.names × (e.file fd ≡ d.file fd)) ⊎ IsKeptFile queue a d e path fd → (IsIn (path, fd) d.names × (g.file fd ≡ d.file fd)) ⊎ IsKeptFile queue b d g path fd
+    by_early path fd same (inl left) = inl (left.0, same ∙ left.1)
+    by_early path fd same (inr kept) = inr (record {
+      reserved = kept.reserved;
+      from = kept.from;
+      number = kept.number;
+      below = omega (arith, kept.below, le);
+      was = kept.was;
+      said = kept.said;
+      file = same ∙ kept.file;
+    })
 
-pub none_kept : (queue : LogQueue) (seq : ℕ) (d e : Disk) (path : Text) → KeepsFrom queue seq d e → fd_of d.names path ≡ None → fd_of e.names path ≡ None
-none_kept queue seq d e path keeps none = never_some (fd_of e.names path) (λ fd found. is_found d.names path fd (keeps.files path fd (found_in e.names path fd found)).0 none)
+    by_late : (path : Text) (fd : ℕ) → IsKeptFile queue b e g path fd → IsKeptFile queue b d g path fd
+    by_late path fd kept =
+        let before = log_kept queue a d e kept.from (id_of queue kept.number) fd one kept.said kept.was in
+        record {
+          reserved = kept.reserved;
+          from = kept.from;
+          number = kept.number;
+          below = kept.below;
+          was = before.0;
+          said = kept.said;
+          file = kept.file ∙ ap renamed before.1;
+        }
+
+pub none_kept : (queue : LogQueue) (seq : ℕ) (d e : Disk) (path : Text) (id : FileId) → KeepsFrom queue seq d e → log_file_of path ≡ Some id → fd_of d.names path ≡ None → fd_of e.names path ≡ None
+none_kept queue seq d e path id keeps says none = never_some (fd_of e.names path) (λ fd found. is_found d.names path fd (log_kept queue seq d e path id fd keeps says (found_in e.names path fd found)).0 none)
 
 pub deleted_none : (d e : Disk) (path : Text) → IsNamed d → Deletes d e path → fd_of e.names path ≡ None
 deleted_none d e path named (fd, found, is) = ap (λ (y : Disk). fd_of y.names path) is ∙ without_gone d.names path d.next named
@@ -138,9 +172,19 @@ deleted_none d e path named (fd, found, is) = ap (λ (y : Disk). fd_of y.names p
 kept_name : (queue : LogQueue) (seq n fd : ℕ) (d e : Disk) → KeepsFrom queue seq d e → seq ≤ n → IsNamedSo d (id_of queue n) fd → IsNamedSo e (id_of queue n) fd × (e.file fd ≡ d.file fd)
 kept_name queue seq n fd d e keeps le (path, there, says) =
     ⊎_elim
-    (λ left. ((path, left, says), (keeps.files path fd left).1))
+    (λ left. ((path, left, says), (log_kept queue seq d e path (id_of queue n) fd keeps says left).1))
     (λ (m, lt, other). absurd (omega (arith, lt, le, ap (λ (x : FileId). x.seq) (some_is (id_of queue n) (id_of queue m) (sym says ∙ other)))))
     (keeps.names path fd there)
+
+kept_names : (queue : LogQueue) (seq last : ℕ) (d e : Disk) (fs : List File) → KeepsFrom queue seq d e → AreConsecutive fs last → seq + length fs ≤ last → AllByRecursion (λ f. IsNamedSo d (id_of queue f.seq) f.handle.0) fs
+    → AllByRecursion (λ f. IsNamedSo e (id_of queue f.seq) f.handle.0) fs
+kept_names queue seq last d e [] keeps numbers le all = tt
+kept_names queue seq last d e (f ∷ fs) keeps numbers le all =
+    ((kept_name queue seq f.seq f.handle.0 d e keeps (omega (arith, numbers.0, le)) all.0).0, kept_names queue seq last d e fs keeps numbers.1 (omega (arith, le)) all.1)
+
+-- so are files that are no log files
+kept_other : (queue : LogQueue) (seq : ℕ) (d e : Disk) (path : Text) (fd : ℕ) → KeepsFrom queue seq d e → log_file_of path ≡ None → IsIn (path, fd) d.names → IsIn (path, fd) e.names
+kept_other queue seq d e path fd keeps none there = ⊎_elim (λ left. left) (λ (m, lt, says). absurd (says_none path (id_of queue m) none says)) (keeps.names path fd there)
 
 kept_olders : (queue : LogQueue) (seq last : ℕ) (d e : Disk) (fs : List File) (bs : Numbered) → KeepsFrom queue seq d e → AreConsecutive fs last → seq + length fs ≤ last → AreOlder queue d fs bs → AreOlder queue e fs bs
 kept_olders queue seq last d e [] bs keeps numbers le os = os
@@ -238,6 +282,11 @@ rest_holds p older f d e pipe is keeps s u h =
     (tail_holds p.queue f older.items p.active p.writer.offset d e s u (first.1.0, first.1.1) (subst (λ n. KeepsFrom p.queue (n + 1) d e) (sym first.0) keeps)
     (subst (λ (l : List File). HoldsIn p.queue l p.active p.writer.offset d s u) is h))
 
+has_says : (dirs : List (String Global)) (path : Text) (id : FileId) → IsFileSeq id.seq → HasPath dirs id path → log_file_of path ≡ Some id
+has_says [] path id number has = absurd has
+has_says (dir ∷ dirs) path id number (inl is) = path_says (string_bytes dir) (log_file_name id) path id number refl is
+has_says (dir ∷ dirs) path id number (inr has) = has_says dirs path id number has
+
 pub rest_pipe : (p : SinglePipe) (older : Vec File Global) (f : File) (d e : Disk) → IsPipe p d → p.older.items ≡ f ∷ older.items → KeepsFrom p.queue (first_of p + 1) d e → IsPipe (with_older p older) e
 rest_pipe p older f d e pipe is keeps =
     let first = first_is p f older.items d pipe is in
@@ -254,12 +303,17 @@ rest_pipe p older f d e pipe is keeps =
       plain = pipe.plain;
       paths = pipe.paths;
       numbers = first.1.1;
-      last = λ path seq lt number has. none_kept p.queue (first_of p + 1) d e path keeps (pipe.last path seq lt number has);
+      last = λ path seq lt number has. none_kept p.queue (first_of p + 1) d e path (id_of p.queue seq) keeps (has_says p.paths.items path (id_of p.queue seq) number has) (pipe.last path seq lt number has);
       named = last.0;
       placed = (subst (λ (l : List File). AllByRecursion (λ x. x.path_id < length p.paths.items) (l ++ p.active ∷ [])) is pipe.placed).1;
       there = subst (λ n. p.active.handle.0 < n) (sym keeps.next) pipe.there;
       apart = subst (λ n. AllByRecursion (λ x. (x.handle.0 < n) × (x.handle.0 ≢ p.active.handle.0)) older.items) (sym keeps.next)
           (subst (λ (l : List File). AllByRecursion (λ x. (x.handle.0 < d.next) × (x.handle.0 ≢ p.active.handle.0)) l) is pipe.apart).1;
+      olders = kept_names p.queue (first_of p + 1) p.active.seq d e older.items keeps first.1.1 (omega (arith, first.0, first.1.0))
+          (subst (λ (l : List File). AllByRecursion (λ x. IsNamedSo d (id_of p.queue x.seq) x.handle.0) l) is pipe.olders).1;
+      reserved = reserved_kept p.queue (map string_bytes p.paths.items) d e p.reserved.items
+          (λ r so. kept_other p.queue (first_of p + 1) d e (reserved_path (map string_bytes p.paths.items) r.path_id r.seq) so.fd keeps (reserved_no_log p.queue (map string_bytes p.paths.items) d r so) so.there)
+          keeps.directories pipe.reserved;
     }
 
 -- one file after the other
@@ -310,19 +364,24 @@ pub record IsPurged (p : SinglePipe) (older : Vec File Global) (d e : Disk) : Ty
   pub keeps : KeepsFrom p.queue (first_of (with_older p older)) d e
   pub shorter : length older.items + 1 ≡ length p.older.items
 
-pub purged : (p : SinglePipe) (older : Vec File Global) (f : File) (d e : Disk) (path : Text) → IsNamed d → IsPipe p d → 0 < length p.older.items → f ≡ get_or p.older.items 0 f → older.items ≡ remove p.older.items 0
-    → log_file_of path ≡ Some (id_of p.queue f.seq) → (e ≡ d) ⊎ Deletes d e path → IsPurged p older d e
-purged p older f d e path named pipe some at rest says done =
+pub purged_so : (p : SinglePipe) (older : Vec File Global) (f : File) (d e : Disk) → IsPipe p d → 0 < length p.older.items → f ≡ get_or p.older.items 0 f → older.items ≡ remove p.older.items 0 → KeepsFrom p.queue (first_of p + 1) d e → IsPurged p older d e
+purged_so p older f d e pipe some at rest keeps =
     let is : p.older.items ≡ f ∷ older.items = removed_first p.older.items f some at ∙ ap (λ (l : List File). f ∷ l) (sym rest) in
     let first = first_is p f older.items d pipe is in
-    let keeps : KeepsFrom p.queue (first_of p + 1) d e
-    = ⊎_elim (λ same. same_keeps p.queue (first_of p + 1) d e same) (λ gone. deleted_keeps p.queue f.seq (first_of p + 1) d e path named says (omega (arith, first.0)) gone) done in
     record {
       pipe = rest_pipe p older f d e pipe is keeps;
       holds = rest_holds p older f d e pipe is keeps;
       keeps = subst (λ n. KeepsFrom p.queue n d e) (omega (arith, first.0, first.1.0)) keeps;
       shorter = omega (arith, ap length is);
     }
+
+pub purged : (p : SinglePipe) (older : Vec File Global) (f : File) (d e : Disk) (path : Text) → IsNamed d → IsPipe p d → 0 < length p.older.items → f ≡ get_or p.older.items 0 f → older.items ≡ remove p.older.items 0
+    → log_file_of path ≡ Some (id_of p.queue f.seq) → (e ≡ d) ⊎ Deletes d e path → IsPurged p older d e
+purged p older f d e path named pipe some at rest says done =
+    let is : p.older.items ≡ f ∷ older.items = removed_first p.older.items f some at ∙ ap (λ (l : List File). f ∷ l) (sym rest) in
+    let first = first_is p f older.items d pipe is in
+    purged_so p older f d e pipe some at rest
+    (⊎_elim (λ same. same_keeps p.queue (first_of p + 1) d e same) (λ gone. deleted_keeps p.queue f.seq (first_of p + 1) d e path named says (omega (arith, first.0)) gone) done)
 
 pub first_placed : (p : SinglePipe) (d : Disk) (f : File) → IsPipe p d → 0 < length p.older.items → f ≡ get_or p.older.items 0 f → f.path_id < length p.paths.items
 first_placed p d f pipe some at =
@@ -339,12 +398,18 @@ first_gone p q f dir e path is within at path_is none g there = by_place (subst 
         inr (subst (λ (x : File). IsGone p x e) (sym same) (λ other there.
         ap (fd_of e.names) (ap (λ (s : String Global). string_bytes s ++ 47 ∷ log_file_name (id_of p.queue f.seq)) (there ∙ get_or_default p.paths.items f.path_id other dir within ∙ sym at) ∙ sym path_is) ∙ none))
 
-pub gone_on : (p q r : SinglePipe) (seq : ℕ) (e g : Disk) → q.queue ≡ p.queue → q.paths ≡ p.paths → KeepsFrom p.queue seq e g → AreGone p q e → AreGone q r g → AreGone p r g
-gone_on p q r seq e g queue paths keeps one two f there =
+-- a file of the pipe has a number that a file can have
+pub older_number : (p : SinglePipe) (d : Disk) (f : File) → IsPipe p d → IsIn f p.older.items → IsFileSeq f.seq
+older_number p d f pipe there = omega (arith, (older_below p.older.items p.active.seq f pipe.numbers there).0, said_number pipe.named.0 (id_of p.queue p.active.seq) pipe.named.2)
+
+pub gone_on : (p q r : SinglePipe) (seq : ℕ) (d e g : Disk) → IsPipe p d → q.queue ≡ p.queue → q.paths ≡ p.paths → KeepsFrom p.queue seq e g → AreGone p q e → AreGone q r g → AreGone p r g
+gone_on p q r seq d e g pipe queue paths keeps one two f there =
     ⊎_elim
     (λ left. ⊎_elim (λ more. inl more) (λ gone. inr (λ dir at. subst (λ (x : LogQueue). fd_of g.names (string_bytes dir ++ 47 ∷ log_file_name (id_of x f.seq)) ≡ None) queue
     (gone dir (subst (λ (x : Paths). dir ≡ get_or x.items f.path_id dir) (sym paths) at)))) (two f left))
-    (λ gone. inr (λ dir at. none_kept p.queue seq e g (string_bytes dir ++ 47 ∷ log_file_name (id_of p.queue f.seq)) keeps (gone dir at)))
+    (λ gone. inr (λ dir at.
+    let path : Text = string_bytes dir ++ 47 ∷ log_file_name (id_of p.queue f.seq) in
+    none_kept p.queue seq e g path (id_of p.queue f.seq) keeps (path_says (string_bytes dir) (log_file_name (id_of p.queue f.seq)) path (id_of p.queue f.seq) (older_number p d f pipe there) refl refl) (gone dir at)))
     (one f there)
 
 pub none_gone : (p : SinglePipe) (e : Disk) → AreGone p p e
@@ -389,8 +454,8 @@ drop_more {A} (suc n) m (x ∷ l) =
     drop_more n m l ∙ ap (λ (k : ℕ). drop k (x ∷ l)) same
 
 -- the last ones of the last ones
-pub last_on : (old mid new : List File) → AreLastOf old mid → AreLastOf mid new → AreLastOf old new
-last_on old mid new one two = (one.0 + two.0, two.1 ∙ ap (λ (l : List File). drop two.0 l) one.1 ∙ drop_more one.0 two.0 old)
+pub last_on : {X : Type 0} (old mid new : List X) → AreLastOf old mid → AreLastOf mid new → AreLastOf old new
+last_on {X = X} old mid new one two = (one.0 + two.0, two.1 ∙ ap (λ (l : List X). drop two.0 l) one.1 ∙ drop_more one.0 two.0 old)
 
 -- a file with one of the last numbers is among them
 pub in_last_files : (fs : List File) (last n : ℕ) (f : File) → AreConsecutive fs last → IsIn f fs → last ≤ f.seq + length (drop n fs) → IsIn f (drop n fs)

@@ -22,7 +22,7 @@ use Rattle.raft_log_pipe.proofs.BlockLemmas.{in_last, is_last, is_older, older_b
 use Rattle.raft_log_pipe.proofs.LostLemmas.{dir_at}
 use Rattle.raft_log_pipe.proofs.NextLemmas.{path_says, some_is}
 use Rattle.raft_log_pipe.proofs.PipeLemmas.{in_all}
-use Rattle.raft_log_pipe.proofs.PurgeLemmas.{holds_all, is_found}
+use Rattle.raft_log_pipe.proofs.PurgeLemmas.{holds_all, is_found, log_kept}
 
 -- ---- names
 
@@ -70,7 +70,8 @@ module _ (p : SinglePipe) (older : Vec File Global) (d e : Disk) (named : IsName
   stood : (seq at fd : ℕ) → StandsAt e.names dirs p.queue seq at fd → StandsAt d.names dirs p.queue seq at fd
   stood seq at fd s =
       let path : Text = path_in dirs at (id_of p.queue seq) in
-      (s.0, s.1, found_as d.names path fd d.next named (keeps.files path fd (found_in e.names path fd s.2)).0)
+      let says = path_says (get_or dirs at []) (log_file_name (id_of p.queue seq)) path (id_of p.queue seq) s.0 refl refl in
+      (s.0, s.1, found_as d.names path fd d.next named (log_kept p.queue (first_of (with_older p older)) d e path (id_of p.queue seq) fd keeps says (found_in e.names path fd s.2)).0)
 
   was_one : (g : File) → IsIn g left → IsIn g (files_of p)
   was_one g there = ⊎_elim

@@ -1,5 +1,5 @@
 -- Why calls on a pipe are refused where nothing is set to refuse.
-use Rattle.std.proofs.Common.{◌≡◌, ◌≢◌, ◌⊎◌, inl, inr, ℕ, zero, suc, ◌+◌, ◌-◌, ◌^◌, ◌<◌, ◌≤◌, Bool, true, false, cond, nat_le, List, [], ◌∷◌, ◌++◌, length, get_or, map, Option, Some, None, refl, sym, ap, subst, ◌∙◌, arith}
+use Rattle.std.proofs.Common.{◌≡◌, ◌⊎◌, inl, inr, ℕ, ◌+◌, ◌-◌, ◌^◌, ◌<◌, ◌≤◌, Bool, cond, List, [], ◌∷◌, ◌++◌, length, get_or, map, Some, refl, sym, ap, subst, ◌∙◌, arith}
 use Rattle.std.specs.Prelude.{Result, Ok, Err, String}
 use Rattle.std.specs.Result.{IsErrAnd}
 use Rattle.std.proofs.lemmas.Bool.{le-leb}
@@ -20,11 +20,11 @@ use Rattle.raft_log_files.specs.declared.error.Error.TheVariants.{Io, Corruption
 use Rattle.raft_log_files.specs.declared.error.OtherFault.TheVariants as other
 use Rattle.raft_log_file.specs.Laws.{Batch}
 use Rattle.raft_log_pipe.specs.declared.pipe.SinglePipe.{SinglePipe}
-use Rattle.raft_log_pipe.specs.Pipe.{IsNamedSo, IsPipe, id_of}
+use Rattle.raft_log_pipe.specs.Pipe.{IsPipe, id_of}
 use Rattle.raft_log_pipe.specs.declared.file.File.{File}
 use Rattle.raft_log_pipe.specs.Begun.{Changes}
 use Rattle.raft_log_pipe.specs.Placing.{IsCreated, first_with_room, or_main, path_chosen}
-use Rattle.raft_log_pipe.specs.Taken.{IsBarred, IsTakenBy, IsTooLarge, IsUnmade, IsUnnumbered, main_path, next_path}
+use Rattle.raft_log_pipe.specs.Taken.{IsBarred, IsTakenBy, IsTooLarge, IsUnmade, IsUnnumbered, main_path, next_path, path_behind}
 
 -- ---- reasons that lead to others
 
@@ -100,11 +100,14 @@ made_there d e id f (handle, (path, says, free, is)) none =
 
 -- ---- a pipe that goes on, with the same last file
 
-pub same_next : (p q : SinglePipe) → q.active ≡ p.active → q.queue ≡ p.queue → q.paths ≡ p.paths → next_path q ≡ next_path p
-same_next p q active queue paths = λ i. main_path (paths i).items (id_of (queue i) ((active i).seq + 1))
+pub same_next : (p q : SinglePipe) → q.active ≡ p.active → q.queue ≡ p.queue → q.paths ≡ p.paths → q.reserved ≡ p.reserved → next_path q ≡ next_path p
+same_next p q active queue paths reserved = λ i. path_behind (reserved i).items (paths i).items (id_of (queue i) ((active i).seq + 1))
 
-pub unmade_before : (p q : SinglePipe) (d e : Disk) → next_path q ≡ next_path p → e.directories ≡ d.directories → IsUnmade q e → IsUnmade p d
-unmade_before p q d e path directories unmade there = unmade (subst (λ (l : List Text). HasDirectory l (next_path q)) (sym directories) (subst (λ (t : Text). HasDirectory d.directories t) (sym path) there))
+pub same_main : (p q : SinglePipe) → q.active ≡ p.active → q.queue ≡ p.queue → q.paths ≡ p.paths → main_path q.paths.items (id_of q.queue (q.active.seq + 1)) ≡ main_path p.paths.items (id_of p.queue (p.active.seq + 1))
+same_main p q active queue paths = λ i. main_path (paths i).items (id_of (queue i) ((active i).seq + 1))
+
+pub unmade_before : (p q : SinglePipe) (d e : Disk) → main_path q.paths.items (id_of q.queue (q.active.seq + 1)) ≡ main_path p.paths.items (id_of p.queue (p.active.seq + 1)) → e.directories ≡ d.directories → IsUnmade q e → IsUnmade p d
+unmade_before p q d e path directories unmade there = unmade (subst (λ (l : List Text). HasDirectory l (main_path q.paths.items (id_of q.queue (q.active.seq + 1)))) (sym directories) (subst (λ (t : Text). HasDirectory d.directories t) (sym path) there))
 
 pub barred_before : (p q : SinglePipe) (d e : Disk) → next_path q ≡ next_path p → e.directories ≡ d.directories → e.next ≡ d.next → IsBarred q e → IsBarred p d
 barred_before p q d e path directories next (inl many) = inl (omega (arith, many, next))

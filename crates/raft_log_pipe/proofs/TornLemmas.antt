@@ -1,7 +1,6 @@
 -- At most the newest file of a queue is torn behind a refused call.
-use Rattle.std.proofs.Common.{◌≡◌, ◌⊎◌, inl, inr, ⊎_elim, ℕ, ◌+◌, true, false, List, [], ◌∷◌, ◌++◌, length, take, drop, refl, sym, ap, subst, ◌∙◌, arith, append_assoc, get_or, length-append}
-use Rattle.std.specs.Prelude.{MatchResult, Result, Ok, Err, Vec}
-use Rattle.std.specs.declared.alloc.Global.{Global}
+use Rattle.std.proofs.Common.{◌≡◌, ◌⊎◌, inl, inr, ⊎_elim, ℕ, true, List, [], ◌∷◌, ◌++◌, length, take, drop, sym, ap, subst, ◌∙◌, arith, append_assoc, length-append}
+use Rattle.std.specs.Prelude.{MatchResult, Result, Ok, Err}
 use Rattle.std.proofs.lemmas.List.{take-append-drop}
 use Rattle.std.proofs.Math.Seq.{take-nil}
 use Rattle.raft_log_records.specs.declared.file_id.FileId.{FileId}
@@ -15,8 +14,6 @@ use Rattle.raft_log_disk.specs.declared.format.LogFileFormat.{LogFileFormat}
 use Rattle.raft_log_disk.specs.Chance.{AreWritten, IsHeaderWritten}
 use Rattle.raft_log_disk.specs.Disk.{Disk, FileState, IsIn, no_bytes}
 use Rattle.raft_log_disk.specs.Format.{IsSpellable, header_at, header_len, spelled_header}
-use Rattle.raft_log_disk.proofs.DiskLemmas.{same_file}
-use Rattle.raft_log_files.specs.FileName.{IsFileSeq, log_file_name}
 use Rattle.raft_log_file.specs.declared.writer.LogFileWriter.{LogFileWriter}
 use Rattle.raft_log_file.specs.Laws.{Batch, file_text, spelled_batches}
 use Rattle.raft_log_file.specs.Unsynced.{IsUnsynced}
@@ -24,19 +21,14 @@ use Rattle.raft_log_file.specs.Writer.{IsAppended, IsOpened, IsReady, MakesRoom,
 use Rattle.raft_log_file.proofs.HeaderLemmas.{length-header}
 use Rattle.raft_log_file.proofs.LawLemmas.{header_read}
 use Rattle.raft_log_file.proofs.UnsyncedLemmas.{header_some, image_front}
-use Rattle.raft_log_pipe.specs.declared.file.File.{File}
 use Rattle.raft_log_pipe.specs.declared.pipe.SinglePipe.{SinglePipe}
-use Rattle.raft_log_pipe.specs.Alone.{AreLast, IsAlone, IsMadeIn, Names, directories_of_pipe}
-use Rattle.raft_log_pipe.specs.Begun.{Changes, IsBegun}
+use Rattle.raft_log_pipe.specs.Alone.{AreLast, IsAlone, Names, directories_of_pipe}
 use Rattle.raft_log_pipe.specs.Blocks.{files_of}
 use Rattle.raft_log_pipe.specs.Pipe.{Holds, IsPipe, IsPlain, Numbered, id_of}
-use Rattle.raft_log_pipe.specs.Placing.{Creates}
-use Rattle.raft_log_pipe.specs.Stored.{IsEnded, IsStored}
+use Rattle.raft_log_pipe.specs.Stored.{IsStored}
 use Rattle.raft_log_pipe.specs.Torn.{IsTornAtEnd, IsUnaligned, TearsAtEnd}
-use Rattle.raft_log_pipe.proofs.AloneLemmas.{in_either, made_last, with_older}
 use Rattle.raft_log_pipe.proofs.ChangeLemmas.{unput_last, with_writer}
-use Rattle.raft_log_pipe.proofs.NextLemmas.{begun_changes, begun_stored, IsMade, made_alone, made_begun, made_beside, made_holds, new_empty, path_says}
-use Rattle.raft_log_pipe.proofs.PipeLemmas.{file_there, names_kept, olders_next, olders_on, same_beside}
+use Rattle.raft_log_pipe.proofs.PipeLemmas.{file_there, names_kept, olders_on, same_beside}
 use Rattle.raft_log_pipe.proofs.StoredLemmas.{stored_within}
 
 -- ---- headers
@@ -45,7 +37,7 @@ format_is : (a b : LogFileFormat) → (let x : Result LogFileFormat HeaderFault 
 format_is a b is = cc
 
 -- the header that was spelled is read
-spelled_plain : (format said : LogFileFormat) (bytes rest : List ℕ) → IsSpellable format → format.alignment ≡ 0 → bytes ≡ spelled_header format ++ rest → header_at bytes ≡ Ok said → said.alignment ≡ 0
+pub spelled_plain : (format said : LogFileFormat) (bytes rest : List ℕ) → IsSpellable format → format.alignment ≡ 0 → bytes ≡ spelled_header format ++ rest → header_at bytes ≡ Ok said → said.alignment ≡ 0
 spelled_plain format said bytes rest spellable plain is told =
     ap (λ (x : LogFileFormat). x.alignment) (format_is said format (sym told ∙ ap header_at is ∙ header_read format rest spellable)) ∙ plain
 
@@ -59,21 +51,21 @@ unsynced_plain id format ks us f u bytes said image genuine told =
     spelled_plain format said bytes (records ++ tail) u.spellable u.plain (image_front f text bytes u.kept u.least u.outside image ∙ append_assoc header records tail) told
 
 -- no call wrote in the file
-record IsBare (f : FileState) : Type 0 where
-  earlier : f.earlier ≡ []
-  later : f.later ≡ []
-  brought : f.brought ≡ []
+pub record IsBare (f : FileState) : Type 0 where
+  pub earlier : f.earlier ≡ []
+  pub later : f.later ≡ []
+  pub brought : f.brought ≡ []
 
 -- or one its header
-record IsFresh (header : List ℕ) (f : FileState) : Type 0 where
-  earlier : f.earlier ≡ []
-  later : (f.later ≡ []) ⊎ (f.later ≡ (0, header) ∷ [])
-  brought : f.brought ≡ []
+pub record IsFresh (header : List ℕ) (f : FileState) : Type 0 where
+  pub earlier : f.earlier ≡ []
+  pub later : (f.later ≡ []) ⊎ (f.later ≡ (0, header) ∷ [])
+  pub brought : f.brought ≡ []
 
-bare_fresh : (header : List ℕ) (f : FileState) → IsBare f → IsFresh header f
+pub bare_fresh : (header : List ℕ) (f : FileState) → IsBare f → IsFresh header f
 bare_fresh header f bare = record { earlier = bare.earlier; later = inl bare.later; brought = bare.brought }
 
-empty_bare : (f : FileState) → f ≡ no_bytes → IsBare f
+pub empty_bare : (f : FileState) → f ≡ no_bytes → IsBare f
 empty_bare f is = record {
   earlier = ap (λ (x : FileState). x.earlier) is;
   later = ap (λ (x : FileState). x.later) is;
@@ -89,7 +81,7 @@ none_told (b ∷ bytes) said told is = by_version said.version is
     by_version V1 none = absurd cc
     by_version V2 none = absurd cc
 
-fresh_plain : (id : FileId) (format : LogFileFormat) (f : FileState) → IsPlain format → IsFresh (spelled_header format) f → IsUnaligned id f
+pub fresh_plain : (id : FileId) (format : LogFileFormat) (f : FileState) → IsPlain format → IsFresh (spelled_header format) f → IsUnaligned id f
 fresh_plain id format f plain fresh bytes said image genuine told = by_header shown.0
   where
     header : List ℕ
@@ -154,7 +146,7 @@ opened_plain d e g fd format r plain opened same none id =
 -- ---- pipes
 
 -- a file of batches has bytes
-stored_some : (id : FileId) (format : LogFileFormat) (ks us : List Batch) (offset : ℕ) (f : FileState) → IsStored id format ks us offset f → f.bytes ≡ [] → ⊥
+pub stored_some : (id : FileId) (format : LogFileFormat) (ks us : List Batch) (offset : ℕ) (f : FileState) → IsStored id format ks us offset f → f.bytes ≡ [] → ⊥
 stored_some id format ks us offset f s none =
     omega (arith, s.place, stored_within id format ks us offset f s, ap length none, length-append (spelled_header format) (spelled_batches (signature_of format.version id.seq) (ks ++ us)), length-header format, header_some format.version)
 
@@ -193,57 +185,3 @@ torn_then old p new d b e on before tears alone s u h = ⊎_elim (λ as_it_was. 
 pub torn_next : (old p new : SinglePipe) (d b e : Disk) → (IsAlone old d → IsAlone p b) → ((s u : Numbered) → Holds old d s u → Holds p b (s ++ u) []) → (IsAlone p b → (s : Numbered) → Holds p b s [] → IsTornAtEnd new e)
     → TearsAtEnd old d new e
 torn_next old p new d b e on all tears alone s u h = tears (on alone) (s ++ u) (all s u h)
-
--- ---- a new file behind a pipe
-
-module _ (p : SinglePipe) (d g : Disk) (f : File) (s : Numbered) (pipe : IsPipe p d) (ended : IsEnded p.writer.offset (d.file p.active.handle.0)) (h : Holds p d s []) where
-  -- it is the newest
-  behind_torn : (id : FileId) (older : Vec File Global) → older.items ≡ p.older.items → IsMade d g id → AreLast g.names (directories_of_pipe p) p.queue (files_of p ++ f ∷ []) → IsUnaligned (id_of p.queue f.seq) (g.file f.handle.0)
-      → IsTornAtEnd (with_older p older) g
-  behind_torn id older same made last plain =
-      let held = made_holds p d g id pipe made s [] h in
-      let stays : g.file p.active.handle.0 ≡ d.file p.active.handle.0 = made_beside d g id p.active.handle.0 made pipe.there in
-      record {
-        older = files_of p;
-        newest = f;
-        batches = s;
-        last = last;
-        whole = olders_next p.queue p.older.items p.active p.writer.offset g s held (subst (IsEnded p.writer.offset) (sym stays) ended);
-        known = λ x there none. subst (IsIn x) (sym same)
-            (⊎_elim (λ before. before)
-            (⊎_elim
-            (λ is. absurd (stored_some (id_of p.queue p.active.seq) p.active.format held.ks held.us p.writer.offset (g.file p.active.handle.0) held.stored (subst (λ (y : File). (g.file y.handle.0).bytes ≡ []) is none)))
-            (λ nothing. absurd nothing))
-            (in_either x p.older.items (p.active ∷ []) there));
-        plain = plain;
-      }
-
-  module _ (e : Disk) (id : FileId) (alone : IsAlone p d) (next : f.seq ≡ p.active.seq + 1) (below : IsFileSeq id.seq) (is : id ≡ id_of p.queue f.seq) (creates : Creates d e id) where
-    -- its header was perhaps written
-    pub unbegun_torn : IsMadeIn d e (directories_of_pipe p) id (Ok f) → Changes e g f.handle.0 → (e.file f.handle.0 ≡ no_bytes → (x : FileId) → IsUnaligned x (g.file f.handle.0)) → IsTornAtEnd p g
-    unbegun_torn (handle, made) change plain =
-        let bare : e.file f.handle.0 ≡ no_bytes = ap e.file handle ∙ ap (λ (y : Disk). y.file d.next) made.is ∙ same_file d.next no_bytes (d.file d.next) in
-        behind_torn id p.older refl (made_begun d e g f id (handle, creates) change) (made_last p d e g id f alone next below is made handle (ap (λ (y : Disk). y.names) change)) (plain bare (id_of p.queue f.seq))
-
-    -- it was, and the list of files did not grow
-    pub unpushed_torn : (older : Vec File Global) (w : LogFileWriter) → older.items ≡ p.older.items → IsPlain f.format → IsMadeIn d e (directories_of_pipe p) id (Ok f) → IsBegun e g f (Ok w) → IsTornAtEnd (with_older p older) g
-    unpushed_torn older w same plain (handle, made) begun =
-        let change = begun_changes e g f w begun in
-        let bare : e.file f.handle.0 ≡ no_bytes = ap e.file handle ∙ ap (λ (y : Disk). y.file d.next) made.is ∙ same_file d.next no_bytes (d.file d.next) in
-        let stored = begun_stored e g f p.queue w (new_empty (spelled_header f.format) (e.file f.handle.0) bare) plain begun in
-        behind_torn id older same (made_begun d e g f id (handle, creates) change) (made_last p d e g id f alone next below is made handle (ap (λ (y : Disk). y.names) change))
-        (unsynced_plain (id_of p.queue f.seq) f.format [] [] (g.file f.handle.0) stored.unsynced)
-
--- it was perhaps made
-pub refused_torn : (p : SinglePipe) (d e : Disk) (id : FileId) (x : IoFault) (s : Numbered) → IsPipe p d → IsEnded p.writer.offset (d.file p.active.handle.0) → Holds p d s [] → IsAlone p d → id.seq ≡ p.active.seq + 1 → IsFileSeq id.seq → id.queue ≡ p.queue
-    → IsMadeIn d e (directories_of_pipe p) id (Err x) → IsTornAtEnd p e
-refused_torn p d e id x s pipe ended h alone next below queue (inl same) = subst (IsTornAtEnd p) (sym same) (held_torn p d alone s [] h)
-refused_torn p d e id x s pipe ended h alone next below queue (inr (place, made)) =
-    let directory = get_or (directories_of_pipe p) place [] in
-    let f : File = record { seq = id.seq; handle = record { 0 = d.next }; format = p.default_format; path_id = place; reserved = false } in
-    let is : id ≡ id_of p.queue f.seq = λ i. record { queue = queue i; seq = id.seq } in
-    let bare : e.file d.next ≡ no_bytes = ap (λ (y : Disk). y.file d.next) made.is ∙ same_file d.next no_bytes (d.file d.next) in
-    behind_torn p d e f s pipe ended h id p.older refl
-    (made_alone d e id (directory ++ 47 ∷ log_file_name id, path_says directory (log_file_name id) (directory ++ 47 ∷ log_file_name id) id below refl refl, made.free, made.is))
-    (made_last p d e e id f alone next below is made refl refl)
-    (fresh_plain (id_of p.queue f.seq) p.default_format (e.file d.next) pipe.plain (bare_fresh (spelled_header p.default_format) (e.file d.next) (empty_bare (e.file d.next) bare)))

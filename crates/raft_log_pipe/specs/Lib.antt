@@ -1,4 +1,5 @@
 pub mod Stored
+pub mod Reserved
 pub mod Pipe
 pub mod Placing
 pub mod Begun
@@ -11,4 +12,7 @@ pub mod Others
 pub mod Torn
 pub mod Taken
 pub mod Caused
+pub mod Next
 pub mod Kept
+pub mod Unreserved
+pub mod Prepared

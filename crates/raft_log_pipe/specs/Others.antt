@@ -5,12 +5,13 @@ use Rattle.raft_log_disk.specs.Text.{Text}
 use Rattle.raft_log_disk.specs.Disk.{Disk, IsIn}
 use Rattle.raft_log_disk.specs.Name.{log_file_of}
 use Rattle.raft_log_pipe.specs.Pipe.{id_of}
+use Rattle.raft_log_pipe.specs.Reserved.{IsReservedPath}
 
--- the path is no log file's of the queue
+-- the path is no log file's of the queue, and no reserved file's of it
 abbrev pub IsOther : LogQueue → Text → Type 0
-IsOther queue path = (seq : ℕ) → log_file_of path ≡ Some (id_of queue seq) → ⊥
+IsOther queue path = ((seq : ℕ) → log_file_of path ≡ Some (id_of queue seq) → ⊥) × (IsReservedPath queue path → ⊥)
 
--- Paths that are no log file's of the queue name the same files as before. These have what they had, so a crash leaves of them
+-- Paths that are no log file's and no reserved file's of the queue name the same files as before. These have what they had, so a crash leaves of them
 -- what it would have left. No directory goes or is made
 pub record KeepsOthers (queue : LogQueue) (d e : Disk) : Type 0 where
   pub stay : (path : Text) (fd : ℕ) → IsOther queue path → IsIn (path, fd) d.names → IsIn (path, fd) e.names × (e.file fd ≡ d.file fd)

@@ -21,6 +21,7 @@ use Rattle.raft_log_file.specs.Unsynced.{ReadsAs}
 use Rattle.raft_log_file.specs.Writer.{IsWriter}
 use Rattle.raft_log_pipe.specs.declared.file.File.{File}
 use Rattle.raft_log_pipe.specs.declared.pipe.SinglePipe.{SinglePipe}
+use Rattle.raft_log_pipe.specs.Reserved.{AreReserved}
 use Rattle.raft_log_pipe.specs.Stored.{IsEnded, IsStored}
 
 -- batches with the numbers of their files
@@ -130,6 +131,8 @@ pub record IsPipe (p : SinglePipe) (d : Disk) : Type 0 where
   pub placed : AllByRecursion (λ f. f.path_id < length p.paths.items) (p.older.items ++ p.active ∷ [])
   pub there : p.active.handle.0 < d.next
   pub apart : AllByRecursion (λ f. (f.handle.0 < d.next) × (f.handle.0 ≢ p.active.handle.0)) p.older.items
+  pub olders : AllByRecursion (λ f. IsNamedSo d (id_of p.queue f.seq) f.handle.0) p.older.items
+  pub reserved : AreReserved p.queue (map string_bytes p.paths.items) d p.reserved.items
 
 -- the number of the first file
 abbrev pub first_of : SinglePipe → ℕ

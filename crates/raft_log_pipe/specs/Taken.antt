@@ -1,5 +1,5 @@
 -- Why a call on a pipe is refused where nothing is set to refuse.
-use Rattle.std.specs.Prelude.{◌⊎◌, ℕ, ◌+◌, ◌^◌, ◌<◌, ◌≤◌, List, [], ◌∷◌, ◌++◌, Result, Ok, Err, String}
+use Rattle.std.specs.Prelude.{◌⊎◌, ℕ, ◌+◌, ◌^◌, ◌<◌, ◌≤◌, List, [], ◌∷◌, ◌++◌, map, Result, Ok, Err, String}
 use Rattle.std.specs.String.{string_bytes}
 use Rattle.std.specs.declared.alloc.Global.{Global}
 use Rattle.raft_log_records.specs.declared.file_id.FileId.{FileId}
@@ -13,7 +13,9 @@ use Rattle.raft_log_files.specs.declared.error.Error.TheVariants.{Io, Corruption
 use Rattle.raft_log_files.specs.declared.error.OtherFault.TheVariants as other
 use Rattle.raft_log_file.specs.Laws.{Batch}
 use Rattle.raft_log_pipe.specs.declared.file.File.{File}
+use Rattle.raft_log_pipe.specs.declared.file.ReservedFile.{ReservedFile}
 use Rattle.raft_log_pipe.specs.declared.pipe.SinglePipe.{SinglePipe}
+use Rattle.raft_log_pipe.specs.Alone.{path_in}
 use Rattle.raft_log_pipe.specs.Blocks.{IsOutOfSpan}
 use Rattle.raft_log_pipe.specs.Pipe.{id_of}
 use Rattle.raft_log_pipe.specs.Purging.{IsGone}
@@ -48,9 +50,14 @@ abbrev pub main_path : List (String Global) → FileId → Text
 main_path [] id = []
 main_path (dir ∷ dirs) id = string_bytes dir ++ 47 ∷ log_file_name id
 
+-- where a file goes behind these reserved ones: where the first of them lies, or to the main directory
+abbrev pub path_behind : List ReservedFile → List (String Global) → FileId → Text
+path_behind [] dirs id = main_path dirs id
+path_behind (r ∷ rs) dirs id = path_in (map string_bytes dirs) r.path_id id
+
 -- where a pipe's next file goes
 abbrev pub next_path : SinglePipe → Text
-next_path p = main_path p.paths.items (id_of p.queue (p.active.seq + 1))
+next_path p = path_behind p.reserved.items p.paths.items (id_of p.queue (p.active.seq + 1))
 
 -- no number is left for it
 abbrev pub IsUnnumbered : SinglePipe → Type 0
@@ -58,7 +65,7 @@ IsUnnumbered p = IsFileSeq (p.active.seq + 1) → ⊥
 
 -- the main directory isn't there
 abbrev pub IsUnmade : SinglePipe → Disk → Type 0
-IsUnmade p d = HasDirectory d.directories (next_path p) → ⊥
+IsUnmade p d = HasDirectory d.directories (main_path p.paths.items (id_of p.queue (p.active.seq + 1))) → ⊥
 
 -- the file system has no number for it, or a directory has its path
 abbrev pub IsBarred : SinglePipe → Disk → Type 0

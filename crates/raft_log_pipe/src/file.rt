@@ -32,6 +32,15 @@ pub struct File {
     pub reserved: bool,
 }
 
+/// A file that is kept for reuse, under a reserved name.
+#[derive(Clone, Copy, Debug, PartialEq, Eq)]
+pub struct ReservedFile {
+    /// The number in its name.
+    pub seq: FileSeq,
+    /// In which of the pipe's directories it lies.
+    pub path_id: PathId,
+}
+
 /// The first directory whose free bytes reach the target size, counted from a place on.
 fn with_room<F: FileSystem>(
     files: &F,

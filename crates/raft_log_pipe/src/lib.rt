@@ -6,10 +6,12 @@ mod file;
 mod laws;
 mod opening;
 mod pipe;
+mod prefilling;
 mod purging;
 mod reading;
+mod reserved;
 mod rotate;
 
-pub use file::{File, Paths};
+pub use file::{File, Paths, ReservedFile};
 pub use laws::{pipes_are_torn_at_end, pipes_leave_a_front};
 pub use pipe::SinglePipe;

@@ -59,6 +59,7 @@ impl SinglePipe {
         ensures holds { IfOk result (λ p. (bs : Numbered) → IsFound queue paths.items (F.disk files.old) found.items bs → Holds p (F.disk files.new) bs []) }
         ensures paths { IfOk result (λ p. p.paths ≡ paths) }
         ensures settings { IfOk result (λ p. (p.target_file_size ≡ target_file_size) × (p.default_format ≡ default_format)) }
+        ensures bare { IfOk result (λ p. (p.reserved.items ≡ []) × (p.capacity ≡ 0)) }
         ensures alone { IfOk result (λ p. AreLast (F.disk files.old).names (map string_bytes paths.items) queue found.items → IsAlone p (F.disk files.new)) }
         ensures changes { IfOk result (λ p. Changes (F.disk files.old) (F.disk files.new) p.active.handle.0) }
         ensures keeps { OnOk result (KeepsButHeader (F.disk files.old) (F.disk files.new) found.items) }
@@ -81,6 +82,8 @@ impl SinglePipe {
             older: found,
             active,
             writer,
+            reserved: Vec::new(alloc),
+            capacity: 0,
         })
     }
 
@@ -100,6 +103,7 @@ impl SinglePipe {
         ensures pipe { IfOk result (λ p. IsPipe p (F.disk files.new)) }
         ensures paths { IfOk result (λ p. p.paths ≡ paths) }
         ensures settings { IfOk result (λ p. (p.target_file_size ≡ target_file_size) × (p.default_format ≡ default_format)) }
+        ensures bare { IfOk result (λ p. (p.reserved.items ≡ []) × (p.capacity ≡ 0)) }
         ensures alone { IfOk result (λ p. AreDistinct (map string_bytes paths.items) → IsVacant (F.disk files.old).names (map string_bytes paths.items) queue → IsAlone p (F.disk files.new)) }
         ensures holds { IfOk result (λ p. Holds p (F.disk files.new) [] []) }
         ensures first { IfOk result (λ p. (p.queue ≡ queue) × (p.active.seq ≡ 1) × (p.older.items ≡ [])) }
@@ -122,6 +126,8 @@ impl SinglePipe {
             older: Vec::new(alloc),
             active: file,
             writer,
+            reserved: Vec::new(alloc),
+            capacity: 0,
         })
     }
 }

@@ -9,7 +9,7 @@ ghost use Rattle.raft_log_pipe.specs.Others.{KeepsOthers};
 ghost use Rattle.raft_log_pipe.specs.Pipe.{IsPipe, Holds, Numbered, first_of};
 ghost use Rattle.raft_log_pipe.specs.Taken.{IsOkOrMemory};
 
-use crate::file::{File, Paths};
+use crate::file::{File, Paths, ReservedFile};
 use raft_log_file::LogFileWriter;
 use raft_log_files::{Error, FileSystem, LogFileFormat};
 use raft_log_records::{FileSeq, LogQueue};
@@ -31,11 +31,16 @@ pub struct SinglePipe {
     /// The last file, which is written.
     pub(crate) active: File,
     pub(crate) writer: LogFileWriter,
+    /// Files that are kept for reuse under names of their own, of rising numbers.
+    pub(crate) reserved: Vec<ReservedFile>,
+    /// How many files there are at most, those that are kept for reuse and all others. With none of
+    /// these none is kept.
+    pub(crate) capacity: u64,
 }
 
 impl SinglePipe {
     /// How many files there are.
-    fn count(&self) -> u64
+    pub(crate) fn count(&self) -> u64
         ensures { result ≡ length self.now.older.items + 1 }
     {
         self.older.len() as u64 + 1
@@ -82,6 +87,7 @@ impl SinglePipe {
         ensures pipe { IsPipe self.new (F.disk files.new) }
         ensures same { (self.new.active ≡ self.old.active) × (self.new.older ≡ self.old.older) × (self.new.queue ≡ self.old.queue) }
         ensures paths { self.new.paths ≡ self.old.paths }
+        ensures reserved { self.new.reserved ≡ self.old.reserved }
         ensures set { KeepsSettings self.old self.new }
         ensures others { KeepsOthers self.old.queue (F.disk files.old) (F.disk files.new) }
         ensures names { (F.disk files.new).names ≡ (F.disk files.old).names }

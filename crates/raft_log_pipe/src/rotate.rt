@@ -1,6 +1,6 @@
 //! Rotation: the last file is cut and synced, and a new one goes on.
 
-ghost use Rattle.std.specs.Prelude.{◌≡◌, ◌+◌, ◌-◌, ◌<◌, ◌≤◌, ◌++◌, ◌∷◌, [], IfErr, IfOk, IsErrOf, OnOk, OnErr};
+ghost use Rattle.std.specs.Prelude.{◌≡◌, ◌+◌, ◌-◌, ◌<◌, ◌≤◌, ◌++◌, ◌∷◌, [], drop, length, IfErr, IfOk, IsErrOf, OnOk, OnErr};
 ghost use Rattle.raft_log_disk.specs.declared.fault.IoFault.TheVariants.{NoSpace};
 ghost use Rattle.raft_log_disk.specs.Cause.{IsTaken, Lacks, NothingRefuses, RefusesNoMore, Rises};
 ghost use Rattle.raft_log_disk.specs.Disk.{IsNoFile, no_bytes};
@@ -9,18 +9,24 @@ ghost use Rattle.raft_log_files.specs.FileName.{IsFileSeq};
 ghost use Rattle.raft_log_pipe.specs.Kept.{KeepsSettings};
 ghost use Rattle.raft_log_pipe.specs.Others.{KeepsOthers};
 ghost use Rattle.raft_log_pipe.specs.Pipe.{IsPipe, IsPlain, Holds, Leaves, Numbered};
-ghost use Rattle.raft_log_pipe.specs.Alone.{IsAlone, IsNearlyAlone};
+ghost use Rattle.raft_log_pipe.specs.Alone.{IsAlone, IsNearlyAlone, directories_of_pipe};
 ghost use Rattle.raft_log_pipe.specs.Begun.{IsBegun};
 ghost use Rattle.raft_log_pipe.specs.Caused.{IsCaused, IsRefusalOrMemory, IsRotationFault, LacksPlace};
+ghost use Rattle.raft_log_pipe.specs.Next.{GoesOn, TakesFirst};
+ghost use Rattle.raft_log_pipe.specs.Purging.{AreLastOf};
+ghost use Rattle.raft_log_pipe.specs.Reserved.{AreReserved};
 ghost use Rattle.raft_log_pipe.specs.Stored.{IsEnded};
 ghost use Rattle.raft_log_records.specs.declared.file_id.FileId.{FileId};
 ghost use Rattle.raft_log_pipe.specs.Torn.{IsTornAtEnd, IsUnaligned, TearsAtEnd};
 ghost use Rattle.raft_log_pipe.specs.Taken.{IsBarred, IsOkOrMemory, IsRotationTaken, IsTakenBy, IsUnmade, IsUnnumbered};
 
-use crate::file::{File, new_file};
+use crate::file::{File, ReservedFile, new_file};
 use crate::pipe::SinglePipe;
+use crate::reserved::reserved_path;
 use raft_log_file::{LogFileWriter, build_file_writer};
-use raft_log_files::{Error, FileSystem, IoFault, LogFileFormat, OtherFault, is_file_seq};
+use raft_log_files::{
+    Error, FileNameExt, FileSystem, IoFault, LogFileFormat, OtherFault, Permission, is_file_seq,
+};
 use raft_log_records::FileId;
 use std::alloc::Global;
 
@@ -48,6 +54,15 @@ pub(crate) fn begin_file<F: FileSystem>(
     Ok(writer)
 }
 
+/// The list without its first file.
+fn drop_first(files: &mut Vec<ReservedFile>)
+    ensures { files.new.items ≡ drop 1 files.old.items }
+{
+    if !files.is_empty() {
+        let _ = files.remove(0);
+    }
+}
+
 impl SinglePipe {
     /// Cuts and syncs the last file, so that all that was appended is on the disk. After an `Err` each
     /// batch is as it was.
@@ -56,6 +71,7 @@ impl SinglePipe {
         ensures pipe { IsPipe self.new (F.disk files.new) }
         ensures same { (self.new.active ≡ self.old.active) × (self.new.older ≡ self.old.older) × (self.new.queue ≡ self.old.queue) }
         ensures paths { self.new.paths ≡ self.old.paths }
+        ensures reserved { self.new.reserved ≡ self.old.reserved }
         ensures set { KeepsSettings self.old self.new }
         ensures others { KeepsOthers self.old.queue (F.disk files.old) (F.disk files.new) }
         ensures names { (F.disk files.new).names ≡ (F.disk files.old).names }
@@ -78,6 +94,7 @@ impl SinglePipe {
         ensures number { OnOk result (IsFileSeq (self.old.active.seq + 1)) }
         ensures same { (self.new.active ≡ self.old.active) × (self.new.older ≡ self.old.older) × (self.new.queue ≡ self.old.queue) }
         ensures paths { self.new.paths ≡ self.old.paths }
+        ensures reserved { self.new.reserved ≡ self.old.reserved }
         ensures set { KeepsSettings self.old self.new }
         ensures others { KeepsOthers self.old.queue (F.disk files.old) (F.disk files.new) }
         ensures names { (F.disk files.new).names ≡ (F.disk files.old).names }
@@ -95,7 +112,87 @@ impl SinglePipe {
         self.close(files)
     }
 
-    /// Goes on with a new file, of the next number.
+    /// Makes the file of the next number, with its header on the disk.
+    fn begin_new<F: FileSystem>(&self, files: &mut F) -> Result<(File, LogFileWriter), IoFault>
+        requires pipe { IsPipe self.now (F.disk files.old) }
+        requires number { IsFileSeq (self.now.active.seq + 1) }
+        requires none { length self.now.reserved.items ≡ 0 }
+        ensures goes { GoesOn self.now (F.disk files.old) (F.disk files.new) result }
+        ensures left { OnOk result (AreReserved self.now.queue (directories_of_pipe self.now) (F.disk files.new) (drop 1 self.now.reserved.items)) }
+        ensures takes { IfOk result (λ x. TakesFirst self.now.reserved.items self.now (F.disk files.old) (drop 1 self.now.reserved.items) x.0 (F.disk files.new)) }
+        ensures others { KeepsOthers self.now.queue (F.disk files.old) (F.disk files.new) }
+        ensures later { RefusesNoMore (F.is_bounded files.old) (F.is_bounded files.new) (F.meter files.old) (F.meter files.new) }
+        ensures taken { NothingRefuses (F.is_bounded files.old) (F.meter files.old) → IsTaken (IsUnmade self.now (F.disk files.old)) (IsBarred self.now (F.disk files.old)) result }
+        ensures cause { IsTaken (LacksPlace self.now (F.disk files.old) 1) (Rises 1 (F.meter files.old) (F.meter files.new)) result }
+        ensures lacks { IsErrOf result NoSpace → Lacks 1 (F.meter files.old) (F.meter files.new) }
+    {
+        let id = FileId::new(self.queue, self.active.seq + 1);
+        let format = self.default_format;
+        let target_size = self.target_file_size;
+        let file = new_file(files, self.alloc, &self.paths, id, format, target_size)?;
+        let writer = begin_file(files, self.alloc, file)?;
+        Ok((file, writer))
+    }
+
+    /// Gives the first reserved file its header, on the disk, and then the next number and its
+    /// name. So a crash never leaves a log file of the bytes that it had before.
+    fn reuse_first<F: FileSystem>(&self, files: &mut F) -> Result<(File, LogFileWriter), IoFault>
+        requires pipe { IsPipe self.now (F.disk files.old) }
+        requires number { IsFileSeq (self.now.active.seq + 1) }
+        requires some { 0 < length self.now.reserved.items }
+        ensures goes { GoesOn self.now (F.disk files.old) (F.disk files.new) result }
+        ensures left { OnOk result (AreReserved self.now.queue (directories_of_pipe self.now) (F.disk files.new) (drop 1 self.now.reserved.items)) }
+        ensures takes { IfOk result (λ x. TakesFirst self.now.reserved.items self.now (F.disk files.old) (drop 1 self.now.reserved.items) x.0 (F.disk files.new)) }
+        ensures others { KeepsOthers self.now.queue (F.disk files.old) (F.disk files.new) }
+        ensures later { RefusesNoMore (F.is_bounded files.old) (F.is_bounded files.new) (F.meter files.old) (F.meter files.new) }
+        ensures taken { NothingRefuses (F.is_bounded files.old) (F.meter files.old) → IsTaken (IsUnmade self.now (F.disk files.old)) (IsBarred self.now (F.disk files.old)) result }
+        ensures cause { IsTaken (LacksPlace self.now (F.disk files.old) 1) (Rises 1 (F.meter files.old) (F.meter files.new)) result }
+        ensures lacks { IsErrOf result NoSpace → Lacks 1 (F.meter files.old) (F.meter files.new) }
+    {
+        let kept = self.reserved[0];
+        let id = FileId::new(self.queue, self.active.seq + 1);
+        let directory = self.paths[kept.path_id].as_str();
+        let from = reserved_path(self.alloc, directory, kept.seq)?;
+        let to = id.build_file_path(self.alloc, directory)?;
+        let handle = match files.open(from.as_str(), Permission::ReadWrite) {
+            Ok(handle) => handle,
+            Err(fault) => return Err(fault),
+        };
+        let file = File {
+            seq: id.seq,
+            handle,
+            format: self.default_format,
+            path_id: kept.path_id,
+            reserved: false,
+        };
+        let writer = begin_file(files, self.alloc, file)?;
+        match files.reuse(from.as_str(), to.as_str()) {
+            Ok(()) => Ok((file, writer)),
+            Err(fault) => Err(fault),
+        }
+    }
+
+    /// The file of the next number, with its header on the disk: the first reserved file, or a new
+    /// one where there is none.
+    fn begin_next<F: FileSystem>(&self, files: &mut F) -> Result<(File, LogFileWriter), IoFault>
+        requires pipe { IsPipe self.now (F.disk files.old) }
+        requires number { IsFileSeq (self.now.active.seq + 1) }
+        ensures goes { GoesOn self.now (F.disk files.old) (F.disk files.new) result }
+        ensures left { OnOk result (AreReserved self.now.queue (directories_of_pipe self.now) (F.disk files.new) (drop 1 self.now.reserved.items)) }
+        ensures takes { IfOk result (λ x. TakesFirst self.now.reserved.items self.now (F.disk files.old) (drop 1 self.now.reserved.items) x.0 (F.disk files.new)) }
+        ensures others { KeepsOthers self.now.queue (F.disk files.old) (F.disk files.new) }
+        ensures later { RefusesNoMore (F.is_bounded files.old) (F.is_bounded files.new) (F.meter files.old) (F.meter files.new) }
+        ensures taken { NothingRefuses (F.is_bounded files.old) (F.meter files.old) → IsTaken (IsUnmade self.now (F.disk files.old)) (IsBarred self.now (F.disk files.old)) result }
+        ensures cause { IsTaken (LacksPlace self.now (F.disk files.old) 1) (Rises 1 (F.meter files.old) (F.meter files.new)) result }
+        ensures lacks { IsErrOf result NoSpace → Lacks 1 (F.meter files.old) (F.meter files.new) }
+    {
+        if self.reserved.is_empty() {
+            return self.begin_new(files);
+        }
+        self.reuse_first(files)
+    }
+
+    /// Goes on with a file of the next number: the first reserved one, or a new one.
     pub(crate) fn go_on<F: FileSystem>(&mut self, files: &mut F) -> Result<(), IoFault>
         requires pipe { IsPipe self.old (F.disk files.old) }
         requires number { IsFileSeq (self.old.active.seq + 1) }
@@ -103,8 +200,10 @@ impl SinglePipe {
         ensures pipe { OnOk result (IsPipe self.new (F.disk files.new)) }
         ensures writer { IsWriter self.new.writer (F.disk files.new) }
         ensures next { OnOk result ((self.new.active.seq ≡ self.old.active.seq + 1) × (self.new.older.items ≡ self.old.older.items ++ self.old.active ∷ [])) }
+        ensures takes { OnOk result (TakesFirst self.old.reserved.items self.old (F.disk files.old) self.new.reserved.items self.new.active (F.disk files.new)) }
         ensures queue { self.new.queue ≡ self.old.queue }
         ensures paths { self.new.paths ≡ self.old.paths }
+        ensures reserved { AreLastOf self.old.reserved.items self.new.reserved.items }
         ensures set { KeepsSettings self.old self.new }
         ensures others { KeepsOthers self.old.queue (F.disk files.old) (F.disk files.new) }
         ensures alone { OnOk result (IsAlone self.old (F.disk files.old) → IsAlone self.new (F.disk files.new)) }
@@ -118,14 +217,11 @@ impl SinglePipe {
         ensures cause { IsTaken (LacksPlace self.old (F.disk files.old) 1) (Rises 1 (F.meter files.old) (F.meter files.new)) result }
         ensures lacks { IsErrOf result NoSpace → Lacks 1 (F.meter files.old) (F.meter files.new) }
     {
-        let id = FileId::new(self.queue, self.active.seq + 1);
-        let format = self.default_format;
-        let target_size = self.target_file_size;
-        let file = new_file(files, self.alloc, &self.paths, id, format, target_size)?;
-        let writer = begin_file(files, self.alloc, file)?;
+        let (file, writer) = self.begin_next(files)?;
         self.older.push(self.active)?;
         self.active = file;
         self.writer = writer;
+        drop_first(&mut self.reserved);
         Ok(())
     }
 
@@ -136,8 +232,10 @@ impl SinglePipe {
         ensures pipe { OnOk result (IsPipe self.new (F.disk files.new)) }
         ensures writer { IsWriter self.new.writer (F.disk files.new) }
         ensures next { OnOk result ((self.new.active.seq ≡ self.old.active.seq + 1) × (self.new.older.items ≡ self.old.older.items ++ self.old.active ∷ [])) }
+        ensures takes { OnOk result (TakesFirst self.old.reserved.items self.old (F.disk files.old) self.new.reserved.items self.new.active (F.disk files.new)) }
         ensures queue { self.new.queue ≡ self.old.queue }
         ensures paths { self.new.paths ≡ self.old.paths }
+        ensures reserved { AreLastOf self.old.reserved.items self.new.reserved.items }
         ensures set { KeepsSettings self.old self.new }
         ensures others { KeepsOthers self.old.queue (F.disk files.old) (F.disk files.new) }
         ensures alone { OnOk result (IsAlone self.old (F.disk files.old) → IsAlone self.new (F.disk files.new)) }

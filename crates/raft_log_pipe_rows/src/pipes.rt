@@ -1,10 +1,11 @@
 //! A pipe, and what each of its calls answers.
 
 ghost use Rattle.std.specs.Prelude.{◌≡◌, ◌<◌, [], length, OnOk};
+ghost use Rattle.raft_log_files.specs.FileName.{IsFileSeq};
 ghost use Rattle.raft_log_pipe.specs.Pipe.{IsPipe};
 
 use crate::batches::put_of;
-use raft_log_files::{Error, FileSystem};
+use raft_log_files::{Error, FileSystem, build_reserved_file_name, is_file_seq};
 use raft_log_pipe::SinglePipe;
 use raft_log_records::{FileBlockHandle, FileId, LogQueue};
 use raft_rows::number;
@@ -23,6 +24,10 @@ pub enum Told {
     Read(usize),
     /// How many files lie in the main and in the spill directory.
     Files(usize, usize),
+    /// The free bytes of the main and of the spill directory.
+    Room(u64, u64),
+    /// Whether reserved files of a number are there in the main and in the spill directory.
+    Reserved(bool, bool),
     /// The number of the refusal.
     Refused(u8),
 }
@@ -80,6 +85,57 @@ fn count_in<F: FileSystem>(files: &F, alloc: Global, directory: &str) -> usize {
     }
 }
 
+fn is_reserved<F: FileSystem>(
+    files: &F,
+    alloc: Global,
+    directory: &str,
+    seq: u64,
+) -> Result<bool, AllocError>
+    requires { IsFileSeq seq }
+{
+    let name = build_reserved_file_name(alloc, seq)?;
+    let mut path = String::from_str(alloc, directory)?;
+    path.push_str("/")?;
+    path.push_str(name.as_str())?;
+    Ok(files.is_file(path.as_str()))
+}
+
+fn reserved<F: FileSystem>(files: &F, alloc: Global, seq: u64) -> Result<Told, AllocError> {
+    if !is_file_seq(seq) {
+        return Ok(Told::Reserved(false, false));
+    }
+    Ok(Told::Reserved(
+        is_reserved(files, alloc, "main", seq)?,
+        is_reserved(files, alloc, "spill", seq)?,
+    ))
+}
+
+/// What a word that changes nothing asks for.
+fn look<F: FileSystem>(files: &F, alloc: Global, word: &str) -> Option<Told> {
+    match word {
+        "files" => Some(Told::Files(
+            count_in(files, alloc, "main"),
+            count_in(files, alloc, "spill"),
+        )),
+        "room" => Some(Told::Room(files.available("main"), files.available("spill"))),
+        _ => None,
+    }
+}
+
+/// From here on the queue has so many files at most, those that it keeps for reuse and all others.
+fn keep<F: FileSystem>(
+    files: &F,
+    alloc: Global,
+    pipe: &mut SinglePipe,
+    capacity: u64,
+) -> Result<Told, Error>
+    requires { IsPipe pipe.old (F.disk files.now) }
+    ensures { IsPipe pipe.new (F.disk files.now) }
+{
+    pipe.keep_reserved(files, Vec::new(alloc), capacity)?;
+    Ok(span(pipe))
+}
+
 /// A call without an answer. Any other word is none.
 fn call<F: FileSystem>(files: &mut F, pipe: &mut SinglePipe, word: &str) -> Result<(), Error>
     requires { IsPipe pipe.old (F.disk files.old) }
@@ -93,7 +149,8 @@ fn call<F: FileSystem>(files: &mut F, pipe: &mut SinglePipe, word: &str) -> Resu
     }
 }
 
-/// Takes a step: `put:LEN`, `purge:SEQ`, `read:SEQ`, `files`, `rotate`, `sync` or `close`.
+/// Takes a step: `put:LEN`, `purge:SEQ`, `read:SEQ`, `capacity:COUNT`, `prepare:WANTED`,
+/// `reserved:SEQ`, `files`, `room`, `rotate`, `sync` or `close`.
 fn step<F: FileSystem>(
     files: &mut F,
     alloc: Global,
@@ -112,11 +169,18 @@ fn step<F: FileSystem>(
     if let Some(seq) = word.strip_prefix("read:") {
         return Ok(read(files, pipe, number(seq)));
     }
-    if word == "files" {
-        return Ok(Told::Files(
-            count_in(files, alloc, "main"),
-            count_in(files, alloc, "spill"),
-        ));
+    if let Some(count) = word.strip_prefix("capacity:") {
+        return keep(files, alloc, pipe, number(count));
+    }
+    if let Some(wanted) = word.strip_prefix("prepare:") {
+        pipe.prepare_reserved(files, number(wanted))?;
+        return Ok(span(pipe));
+    }
+    if let Some(seq) = word.strip_prefix("reserved:") {
+        return Ok(reserved(files, alloc, number(seq))?);
+    }
+    if let Some(told) = look(files, alloc, word) {
+        return Ok(told);
     }
     call(files, pipe, word)?;
     Ok(span(pipe))

@@ -48,3 +48,8 @@ both_rewrite p q d e is other pipes usable = record {
 pub on_ok : {T E : Type 0} (A B : Type 0) (r : Result T E) → (A → B) → OnOk r A → OnOk r B
 on_ok A B (Ok x) f a = f a
 on_ok A B (Err e) f a = tt
+
+-- of both queues
+pub each_queue : (P : LogQueue → Type 0) → P Append → P Rewrite → (queue : LogQueue) → P queue
+each_queue P one two Append = one
+each_queue P one two Rewrite = two

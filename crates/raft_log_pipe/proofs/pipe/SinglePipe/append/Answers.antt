@@ -4,6 +4,7 @@ use Rattle.raft_log_pipe.proofs.ExitLemmas.{again_err, again_ok, put_after, stil
 use Rattle.std.proofs.Common.{refl, Err}
 use Rattle.raft_log_pipe.proofs.BlockLemmas.{after_files, same_files, stands_after, stands_ok, then_files}
 use Rattle.raft_log_pipe.proofs.AloneLemmas.{alone_on, err_after, nearly_on, ok_after}
+use Rattle.raft_log_pipe.proofs.FirstLemmas.{same_first}
 use Rattle.raft_log_pipe.proofs.OthersLemmas.{others_on}
 use Rattle.raft_log_disk.proofs.RefusalLemmas.{lacks_then, no_more_then, still_free}
 use Rattle.std.proofs.Common.{◌≡◌, ◌⊎◌, inr, ap, ◌∙◌}
@@ -12,14 +13,19 @@ use Rattle.raft_log_files.specs.Error.{io_error}
 use Rattle.raft_log_records.specs.declared.file_id.FileBlockHandle.{FileBlockHandle}
 use Rattle.raft_log_pipe.specs.declared.pipe.SinglePipe.{SinglePipe}
 use Rattle.raft_log_pipe.specs.Taken.{IsBarred, IsFull, IsTooLarge, IsUnmade, IsUnnumbered}
-use Rattle.raft_log_pipe.proofs.TakenLemmas.{large_before, no_space_large, same_next, still_taken, taken_io, taken_more, told_error, unmade_before, unnumbered_before}
-use Rattle.std.proofs.Common.{ℕ}
+use Rattle.raft_log_pipe.proofs.TakenLemmas.{large_before, no_space_large, same_main, still_taken, taken_io, taken_more, told_error, unmade_before, unnumbered_before}
+use Rattle.std.proofs.Common.{ℕ, ◌+◌, ◌<◌, ◌^◌, subst}
+use Rattle.std.specs.Prelude.{IfOk}
+use Rattle.raft_log_records.specs.Spelling.{record_len}
+use Rattle.raft_log_file.specs.Laws.{Batch}
 use Rattle.raft_log_disk.specs.Cause.{Lacks, Rises}
 use Rattle.raft_log_files.specs.declared.error.Error.{Error}
 use Rattle.raft_log_pipe.specs.Caused.{BeginsFiles, IsAppendFault, LacksNumber, LacksPlace}
 use Rattle.raft_log_pipe.proofs.CausedLemmas.{append_behind, begins_first, caused_for, rises_then, seq_on, told_cause, told_io}
-use Rattle.std.proofs.lemmas.Result.{on_err_weaker}
+use Rattle.std.proofs.lemmas.Result.{on_err_weaker, on_ok_weaker}
 use Rattle.raft_log_pipe.proofs.TornLemmas.{torn_then}
+use Rattle.raft_log_pipe.proofs.PurgeLemmas.{last_on}
+use Rattle.raft_log_pipe.proofs.ReuseLemmas.{left_same}
 use Rattle.raft_log_pipe.proofs.pipe.SinglePipe.append.Goals as goal
 
 pub returns-in_err-make_room-clause-err : goal.returns-in_err-make_room-clause-err
@@ -64,6 +70,13 @@ returns-in-Err-NoSpace-clause-files g c =
     after_files c.put_again.result c.args.self.now c.put.new.self c.put_again.new.self
     (then_files c.args.self.now c.make_room.new.self c.put.new.self c.in_ok-make_room.ensures.files (same_files c.make_room.new.self c.put.new.self c.in-Err-NoSpace.ensures.same.0 c.in-Err-NoSpace.ensures.same.1))
     c.put_again.ensures.files
+
+pub returns-in-Ok-clause-first : goal.returns-in-Ok-clause-first
+returns-in-Ok-clause-first g c = same_first c.make_room.new.self c.put.new.self (c.in-Ok.ensures.same.0, c.in-Ok.ensures.same.1) ∙ c.in_ok-make_room.ensures.first
+
+pub returns-in-Err-NoSpace-clause-first : goal.returns-in-Err-NoSpace-clause-first
+returns-in-Err-NoSpace-clause-first g c =
+    on_ok_weaker c.put_again.result (λ first. first ∙ same_first c.make_room.new.self c.put.new.self (c.in-Err-NoSpace.ensures.same.0, c.in-Err-NoSpace.ensures.same.1) ∙ c.in_ok-make_room.ensures.first) c.put_again.ensures.first
 
 pub returns-in-Ok-clause-alone : goal.returns-in-Ok-clause-alone
 returns-in-Ok-clause-alone g c = λ alone. alone_on c.make_room.new.self c.put.new.self (g.F.FileSystem.disk c.make_room.new.files) (g.F.FileSystem.disk c.put.new.files) c.in-Ok.ensures.same c.in-Ok.ensures.paths c.in-Ok.ensures.names (c.in_ok-make_room.ensures.alone alone)
@@ -128,7 +141,7 @@ returns-in-Err-NoSpace-clause-taken g c =
     let large = large_before p m _ items c.in_ok-make_room.ensures.room c.requires.items
     (no_space_large FileBlockHandle ⊥ (IsTooLarge m items) c.in-Err-NoSpace.field-0 c.in-Err-NoSpace.field-0-is (c.in-Err-NoSpace.ensures.taken (still_free free c.in_ok-make_room.ensures.later))) in
     let active : q.active ≡ p.active = c.in-Err-NoSpace.ensures.same.0 ∙ ap (λ (x : SinglePipe). x.active) large.1 in
-    let path = same_next p q active (c.in-Err-NoSpace.ensures.same.2 ∙ ap (λ (x : SinglePipe). x.queue) large.1) (c.in-Err-NoSpace.ensures.paths ∙ ap (λ (x : SinglePipe). x.paths) large.1) in
+    let path = same_main p q active (c.in-Err-NoSpace.ensures.same.2 ∙ ap (λ (x : SinglePipe). x.queue) large.1) (c.in-Err-NoSpace.ensures.paths ∙ ap (λ (x : SinglePipe). x.paths) large.1) in
     let directories : e.directories ≡ d.directories = c.in-Err-NoSpace.ensures.others.directories ∙ ap (λ (x : Disk). x.directories) large.2 in
     taken_more (IsUnnumbered q) (IsUnmade q e) (IsBarred q e) (needs × IsUnnumbered p) (needs × IsUnmade p d) ((IsFull p × IsBarred p d) ⊎ IsTooLarge p items) c.put_again.result
     (λ x. (inr large.0, unnumbered_before p q active x)) (λ x. (inr large.0, unmade_before p q d e path directories x)) (λ x. inr large.0)
@@ -190,3 +203,15 @@ returns-in-Err-NoSpace-clause-torn g c = on_err_weaker c.put_again.result
     (λ alone. alone_on c.make_room.new.self c.put.new.self (g.F.FileSystem.disk c.make_room.new.files) (g.F.FileSystem.disk c.put.new.files) c.in-Err-NoSpace.ensures.same c.in-Err-NoSpace.ensures.paths c.in-Err-NoSpace.ensures.names (c.in_ok-make_room.ensures.alone alone))
     (still_before c.args.self.now c.make_room.new.self c.put.new.self (g.F.FileSystem.disk c.args.files.now) (g.F.FileSystem.disk c.make_room.new.files) (g.F.FileSystem.disk c.put.new.files) c.in_ok-make_room.ensures.ok
     (unless_no_space c.in-Err-NoSpace.field-0 _ c.in-Err-NoSpace.field-0-is c.in-Err-NoSpace.ensures.unwritten))) c.put_again.ensures.torn
+
+-- ---- reserved files
+
+pub returns-in-Err-NoSpace-clause-reserved : goal.returns-in-Err-NoSpace-clause-reserved
+returns-in-Err-NoSpace-clause-reserved g c =
+    last_on c.args.self.now.reserved.items c.make_room.new.self.reserved.items c.put_again.new.self.reserved.items c.in_ok-make_room.ensures.reserved
+    (last_on c.make_room.new.self.reserved.items c.put.new.self.reserved.items c.put_again.new.self.reserved.items (left_same c.make_room.new.self.reserved c.put.new.self.reserved c.in-Err-NoSpace.ensures.reserved)
+    c.put_again.ensures.reserved)
+
+pub returns-in-Err-NoSpace-clause-fits : goal.returns-in-Err-NoSpace-clause-fits
+returns-in-Err-NoSpace-clause-fits g c =
+    subst (λ (items : Batch). IfOk c.put_again.result (λ h. h.offset + record_len items < 2 ^ 64)) c.in-Err-NoSpace.ensures.batch.0 c.put_again.ensures.fits

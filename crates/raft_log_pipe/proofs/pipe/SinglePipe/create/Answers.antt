@@ -28,7 +28,7 @@ pub returns-clause-pipe : goal.returns-clause-pipe
 returns-clause-pipe g c =
     first_pipe _ _ _ _ _ (λ i. record { queue = c.new-id.ensures.queue i; seq = sym c.in_ok-file.ensures.file.0 i }) (c.in_ok-file.ensures.file.0 ∙ c.new-id.ensures.seq) c.new.ensures.items
     c.requires.paths c.requires.plain c.requires.none c.in_ok-file.ensures.created c.in_ok-writer.ensures.begun
-    (subst (λ (l : List (String Global)). c.in_ok-file.file.path_id < length l) c.deref.ensures.value c.in_ok-file.ensures.within)
+    (subst (λ (l : List (String Global)). c.in_ok-file.file.path_id < length l) c.deref.ensures.value c.in_ok-file.ensures.within) c.new-2.ensures.items
 
 pub returns-clause-holds : goal.returns-clause-holds
 returns-clause-holds g c =

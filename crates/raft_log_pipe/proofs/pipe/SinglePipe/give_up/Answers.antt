@@ -12,6 +12,7 @@ use Rattle.raft_log_pipe.proofs.TakenLemmas.{still_taken}
 use Rattle.raft_log_pipe.proofs.CausedLemmas.{caused_for, place_before, rises_then, told_second}
 use Rattle.std.proofs.Common.{inl, inr}
 use Rattle.raft_log_pipe.proofs.TornLemmas.{held_torn, torn_next, torn_then}
+use Rattle.raft_log_pipe.proofs.ReuseLemmas.{left_same}
 use Rattle.raft_log_pipe.proofs.pipe.SinglePipe.give_up.Goals as goal
 
 pub returns-in-Ok-clause-leaves : goal.returns-in-Ok-clause-leaves
@@ -92,3 +93,8 @@ returns-in-Err-go_on-clause-torn g c =
     torn_next c.args.self.now c.finish.new.self c.go_on.new.self (g.F.FileSystem.disk c.args.files.now) (g.F.FileSystem.disk c.finish.new.files) (g.F.FileSystem.disk c.go_on.new.files)
     (λ alone. alone_on c.args.self.now c.finish.new.self (g.F.FileSystem.disk c.args.files.now) (g.F.FileSystem.disk c.finish.new.files) c.in_default.ensures.same c.in_default.ensures.paths c.in_default.ensures.names alone)
     c.in_default.ensures.ok c.in-Err-go_on.ensures.torn
+
+-- ---- reserved files
+
+pub returns-in-Err-clause-reserved : goal.returns-in-Err-clause-reserved
+returns-in-Err-clause-reserved g c = left_same c.args.self.now.reserved c.finish.new.self.reserved c.in-Err.ensures.reserved

@@ -1,5 +1,6 @@
 use Rattle.raft_log_pipe.proofs.ExitLemmas.{rotated_ok}
 use Rattle.raft_log_pipe.proofs.BlockLemmas.{next_files}
+use Rattle.raft_log_pipe.proofs.FirstLemmas.{begun_first}
 use Rattle.std.proofs.Common.{refl}
 use Rattle.raft_log_pipe.proofs.OthersLemmas.{same_others}
 use Rattle.std.proofs.Common.{inr, arith}
@@ -16,6 +17,9 @@ returns-clause-ok g c = rotated_ok c.rotate.result c.args.self.now c.rotate.new.
 
 pub returns-clause-files : goal.returns-clause-files
 returns-clause-files g c = next_files c.rotate.result c.args.self.now c.rotate.new.self c.rotate.ensures.next
+
+pub returns-clause-first : goal.returns-clause-first
+returns-clause-first g c = on_ok_weaker c.rotate.result (begun_first c.args.self.now c.rotate.new.self) c.rotate.ensures.next
 
 pub returns-then-offset-self-clause-others : goal.returns-then-offset-self-clause-others
 returns-then-offset-self-clause-others g c =

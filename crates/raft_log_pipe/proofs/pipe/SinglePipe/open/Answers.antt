@@ -1,4 +1,4 @@
-use Rattle.std.proofs.Common.{[], ◌∷◌, ◌++◌, map, sym, ap}
+use Rattle.std.proofs.Common.{[], ◌∷◌, ◌++◌, map, sym, ap, subst}
 use Rattle.std.specs.String.{string_bytes}
 use Rattle.raft_log_disk.specs.Disk.{Disk, IsNoFile}
 use Rattle.raft_log_file.specs.declared.writer.LogFileWriter.{LogFileWriter}
@@ -8,6 +8,7 @@ use Rattle.raft_log_pipe.proofs.AloneLemmas.{found_alone}
 use Rattle.raft_log_pipe.proofs.TakenLemmas.{exit_io, named_there, still_taken}
 use Rattle.raft_log_disk.specs.Cause.{Rises}
 use Rattle.raft_log_pipe.proofs.CausedLemmas.{exit_cause}
+use Rattle.raft_log_pipe.specs.Reserved.{AreReserved}
 use Rattle.raft_log_pipe.proofs.pipe.SinglePipe.open.Goals as goal
 
 pub returns-clause-pipe : goal.returns-clause-pipe
@@ -15,7 +16,7 @@ returns-clause-pipe g c =
     let met = g.met.F.FileSystem g.world.𝓛 g.world.𝓜 g.world.𝓡 ((λ s x. x), (λ x. x), (λ x. x), λ x. x) in
     opened_pipe _ (g.F.FileSystem.disk c.args.files.now) _ c.requires.found.0 (met.is_named c.args.files.now)
     (found_so c.args.queue c.args.paths.items (g.F.FileSystem.disk c.args.files.now) c.args.found.items c.pop.new.self.items c.in-Some.active c.requires.found.0 c.in-Some.ensures.items c.requires.found.1)
-    c.in_ok-writer.ensures.resumed c.requires.paths c.requires.plain
+    c.in_ok-writer.ensures.resumed c.requires.paths c.requires.plain (subst (AreReserved c.args.queue (map string_bytes c.args.paths.items) (g.F.FileSystem.disk c.args.files.now)) (sym c.new.ensures.items) tt)
 
 pub returns-clause-holds : goal.returns-clause-holds
 returns-clause-holds g c =

@@ -7,6 +7,7 @@ use Rattle.raft_log_pipe.specs.Taken.{HasLost}
 use Rattle.raft_log_pipe.proofs.LostLemmas.{alone_purge, lost_more}
 use Rattle.raft_log_pipe.proofs.TakenLemmas.{exit_error, taken_for}
 use Rattle.raft_log_pipe.proofs.PurgeLemmas.{first_more, first_or_more, first_or_next, goes_on, gone_on, holds_all, in_files, last_on, none_gone, rest_on, same_keeps}
+use Rattle.raft_log_pipe.proofs.KeepLemmas.{first_on, first_self, fresh_on, kept_on, none_fresh, none_went}
 use Rattle.raft_log_disk.specs.Cause.{Rises}
 use Rattle.raft_log_files.specs.declared.error.Error.{Error}
 use Rattle.raft_log_pipe.specs.Caused.{IsPurgeFault}
@@ -29,7 +30,11 @@ loop-gone-init g c =
       active = refl;
       queue = refl;
       paths = refl;
-      set = (refl, refl);
+      front = first_self c.args.self.now.reserved.items;
+      bound = omega arith;
+      kept = none_went c.args.self.now (g.F.FileSystem.disk c.args.files.now) (g.F.FileSystem.disk c.args.files.now) c.saturating_sub-room.result;
+      fresh = none_fresh c.args.self.now (g.F.FileSystem.disk c.args.files.now);
+      set = (refl, refl, refl);
       holds = holds_all c.args.self.now (g.F.FileSystem.disk c.args.files.now) (g.F.FileSystem.disk c.args.files.now) c.requires.pipe refl;
       keeps = same_keeps c.args.self.now.queue (first_of c.args.self.now) (g.F.FileSystem.disk c.args.files.now) (g.F.FileSystem.disk c.args.files.now) refl;
       rest = (0, refl);
@@ -59,6 +64,7 @@ returns-in_err-purge_first-clause-keeps g c =
 
 pub loop-gone-preserved : goal.loop-gone-preserved
 loop-gone-preserved g c =
+    let met = g.met.F.FileSystem g.world.𝓛 g.world.𝓜 g.world.𝓡 ((λ s x. x), (λ x. x), (λ x. x), λ x. x) in
     let more = first_more c.loop-gone.self c.purge_first.new.self (g.F.FileSystem.disk c.loop-gone.files) (g.F.FileSystem.disk c.purge_first.new.files) c.loop-gone.invariant.pipe c.in_ok-purge_first.ensures.same.0
     c.in_ok-purge_first.ensures.ok in
     let le = first_or_more c.loop-gone.self c.purge_first.new.self (g.F.FileSystem.disk c.loop-gone.files) c.loop-gone.invariant.pipe c.in_ok-purge_first.ensures.same.0 (inl c.in_ok-purge_first.ensures.ok) in
@@ -69,13 +75,21 @@ loop-gone-preserved g c =
       active = c.in_ok-purge_first.ensures.same.0 ∙ c.loop-gone.invariant.active;
       queue = c.in_ok-purge_first.ensures.same.1 ∙ c.loop-gone.invariant.queue;
       paths = c.in_ok-purge_first.ensures.same.2 ∙ c.loop-gone.invariant.paths;
-      set = (c.in_ok-purge_first.ensures.set.0 ∙ c.loop-gone.invariant.set.0, c.in_ok-purge_first.ensures.set.1 ∙ c.loop-gone.invariant.set.1);
+      front = first_on c.args.self.now.reserved.items c.loop-gone.self.reserved.items c.purge_first.new.self.reserved.items c.loop-gone.invariant.front c.in_ok-purge_first.ensures.front;
+      bound = omega (arith, c.loop-gone.invariant.bound, c.in_ok-purge_first.ensures.bound);
+      kept = kept_on c.args.self.now c.loop-gone.self c.purge_first.new.self (g.F.FileSystem.disk c.args.files.now) (g.F.FileSystem.disk c.loop-gone.files) (g.F.FileSystem.disk c.purge_first.new.files)
+          c.loop-gone.invariant.queue c.loop-gone.invariant.paths c.in_ok-purge_first.ensures.same.2 c.in_ok-purge_first.ensures.front c.loop-gone.invariant.fresh c.saturating_sub-room.result
+          (met.is_named c.args.files.now) (met.is_named c.loop-gone.files) (met.is_named c.purge_first.new.files) c.requires.pipe c.loop-gone.invariant.pipe c.in_ok-purge_first.ensures.pipe c.loop-gone.invariant.front
+          (first_of c.loop-gone.self) (first_of c.purge_first.new.self) c.loop-gone.invariant.keeps c.in_ok-purge_first.ensures.keeps c.loop-gone.invariant.kept c.in_ok-purge_first.ensures.kept;
+      fresh = fresh_on c.args.self.now c.loop-gone.self c.purge_first.new.self (g.F.FileSystem.disk c.args.files.now) (g.F.FileSystem.disk c.loop-gone.files) (g.F.FileSystem.disk c.purge_first.new.files)
+          c.loop-gone.invariant.queue c.loop-gone.invariant.paths c.in_ok-purge_first.ensures.same.2 c.in_ok-purge_first.ensures.front c.loop-gone.invariant.fresh c.in_ok-purge_first.ensures.fresh;
+      set = (c.in_ok-purge_first.ensures.set.0 ∙ c.loop-gone.invariant.set.0, c.in_ok-purge_first.ensures.set.1 ∙ c.loop-gone.invariant.set.1, c.in_ok-purge_first.ensures.set.2 ∙ c.loop-gone.invariant.set.2);
       holds = rest_on c.args.self.now c.loop-gone.self c.purge_first.new.self (g.F.FileSystem.disk c.args.files.now) (g.F.FileSystem.disk c.loop-gone.files) (g.F.FileSystem.disk c.purge_first.new.files) le
           c.loop-gone.invariant.holds c.in_ok-purge_first.ensures.holds;
       keeps = goes_on c.args.self.now c.loop-gone.self c.purge_first.new.self (g.F.FileSystem.disk c.args.files.now) (g.F.FileSystem.disk c.loop-gone.files) (g.F.FileSystem.disk c.purge_first.new.files)
           c.loop-gone.invariant.pipe c.in_ok-purge_first.ensures.pipe le c.loop-gone.invariant.queue c.loop-gone.invariant.keeps c.in_ok-purge_first.ensures.keeps;
       rest = last_on c.args.self.now.older.items c.loop-gone.self.older.items c.purge_first.new.self.older.items c.loop-gone.invariant.rest c.in_ok-purge_first.ensures.rest;
-      gone = gone_on c.args.self.now c.loop-gone.self c.purge_first.new.self (first_of c.purge_first.new.self) (g.F.FileSystem.disk c.loop-gone.files) (g.F.FileSystem.disk c.purge_first.new.files)
+      gone = gone_on c.args.self.now c.loop-gone.self c.purge_first.new.self (first_of c.purge_first.new.self) (g.F.FileSystem.disk c.args.files.now) (g.F.FileSystem.disk c.loop-gone.files) (g.F.FileSystem.disk c.purge_first.new.files) c.requires.pipe
           c.loop-gone.invariant.queue c.loop-gone.invariant.paths
           (subst (λ (x : LogQueue). KeepsFrom x (first_of c.purge_first.new.self) (g.F.FileSystem.disk c.loop-gone.files) (g.F.FileSystem.disk c.purge_first.new.files)) c.loop-gone.invariant.queue c.in_ok-purge_first.ensures.keeps)
           c.loop-gone.invariant.gone c.in_ok-purge_first.ensures.gone;
@@ -157,3 +171,7 @@ returns-in_err-purge_first-clause-stands g c =
     at_err c.from_residual.result (StandsFrom p d r e)
     (stands_from p q r d y e (met.is_named c.args.files.now) (met.is_named c.loop-gone.files) (met.is_named c.purge_first.new.files) c.requires.pipe was.pipe was.active was.queue was.paths was.rest was.gone was.keeps (omega (arith, was.count))
     was.holds now.same.0 now.same.1 now.same.2 now.rest now.keeps more (rest_on p q r d y e more was.holds now.holds) now.stays)
+
+pub returns-in_err-purge_first-clause-front : goal.returns-in_err-purge_first-clause-front
+returns-in_err-purge_first-clause-front g c =
+    first_on c.args.self.now.reserved.items c.loop-gone.self.reserved.items c.purge_first.new.self.reserved.items c.loop-gone.invariant.front c.in_err-purge_first.ensures.front

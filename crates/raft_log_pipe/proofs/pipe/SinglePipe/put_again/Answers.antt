@@ -2,6 +2,7 @@ use Rattle.raft_log_disk.proofs.CauseLemmas.{at_err}
 use Rattle.raft_log_pipe.proofs.ExitLemmas.{all_or, put_after, still_leaves, then_holds, then_leaves, unless_no_space, unput_after, unput_from}
 use Rattle.std.proofs.Common.{refl, Err}
 use Rattle.raft_log_pipe.proofs.BlockLemmas.{more_files, same_files, stands_after, then_files}
+use Rattle.raft_log_pipe.proofs.FirstLemmas.{begun_first, same_first}
 use Rattle.raft_log_pipe.proofs.GiveUpLemmas.{given_up}
 use Rattle.raft_log_pipe.proofs.AloneLemmas.{alone_on, nearly_on}
 use Rattle.raft_log_pipe.proofs.OthersLemmas.{others_on}
@@ -9,7 +10,7 @@ use Rattle.raft_log_disk.proofs.RefusalLemmas.{lacks_then, no_more_then, still_f
 use Rattle.raft_log_files.specs.Error.{io_error, second_append_error}
 use Rattle.raft_log_records.specs.declared.file_id.FileBlockHandle.{FileBlockHandle}
 use Rattle.raft_log_pipe.specs.Taken.{IsBarred, IsTooLarge, IsUnmade, IsUnnumbered}
-use Rattle.raft_log_pipe.proofs.TakenLemmas.{barred_before, fits_new, no_space_large, same_next, still_taken, taken_io, taken_second, told_error, unmade_before}
+use Rattle.raft_log_pipe.proofs.TakenLemmas.{barred_before, fits_new, no_space_large, same_main, same_next, still_taken, taken_io, taken_second, told_error, unmade_before}
 use Rattle.std.proofs.Common.{◌≡◌, ◌+◌, ◌∙◌, ℕ, inr, ap, arith}
 use Rattle.raft_log_disk.specs.Cause.{Lacks, Rises}
 use Rattle.raft_log_files.specs.declared.error.Error.{Error}
@@ -19,6 +20,8 @@ use Rattle.raft_log_pipe.proofs.CausedLemmas.{begins_first, caused_for, number_b
 use Rattle.std.proofs.Common.{inl, ◌++◌, []}
 use Rattle.raft_log_pipe.specs.Torn.{TearsAtEnd}
 use Rattle.raft_log_pipe.proofs.TornLemmas.{held_torn, torn_next, torn_then}
+use Rattle.raft_log_pipe.proofs.PurgeLemmas.{last_on}
+use Rattle.raft_log_pipe.proofs.ReuseLemmas.{left_same}
 use Rattle.raft_log_pipe.proofs.pipe.SinglePipe.put_again.Goals as goal
 
 pub returns-in_err-finish-clause-err : goal.returns-in_err-finish-clause-err
@@ -61,6 +64,12 @@ returns-in-Ok-put-clause-files g c =
     then_files c.args.self.now c.finish.new.self c.put.new.self (same_files c.args.self.now c.finish.new.self c.in_ok-finish.ensures.same.0 c.in_ok-finish.ensures.same.1)
     (then_files c.finish.new.self c.go_on.new.self c.put.new.self (more_files c.finish.new.self c.go_on.new.self c.in-Ok.ensures.next.1)
     (same_files c.go_on.new.self c.put.new.self c.in-Ok-put.ensures.same.0 c.in-Ok-put.ensures.same.1))
+
+pub returns-in-Ok-put-clause-first : goal.returns-in-Ok-put-clause-first
+returns-in-Ok-put-clause-first g c =
+    same_first c.go_on.new.self c.put.new.self (c.in-Ok-put.ensures.same.0, c.in-Ok-put.ensures.same.1)
+    ∙ begun_first c.finish.new.self c.go_on.new.self c.in-Ok.ensures.next
+    ∙ same_first c.args.self.now c.finish.new.self (c.in_ok-finish.ensures.same.0, c.in_ok-finish.ensures.same.1)
 
 pub returns-in_err-finish-clause-nearly : goal.returns-in_err-finish-clause-nearly
 returns-in_err-finish-clause-nearly g c = at_err _ _ (nearly_on c.args.self.now c.finish.new.self (g.F.FileSystem.disk c.args.files.now) (g.F.FileSystem.disk c.finish.new.files) c.in_err-finish.ensures.same c.in_err-finish.ensures.paths c.in_err-finish.ensures.names)
@@ -112,12 +121,13 @@ pub returns-in-Err-clause-taken : goal.returns-in-Err-clause-taken
 returns-in-Err-clause-taken g c =
     let d = g.F.FileSystem.disk c.args.files.now in
     let e = g.F.FileSystem.disk c.finish.new.files in
-    let path = same_next c.args.self.now c.finish.new.self c.in_ok-finish.ensures.same.0 c.in_ok-finish.ensures.same.2 c.in_ok-finish.ensures.paths in
+    let main = same_main c.args.self.now c.finish.new.self c.in_ok-finish.ensures.same.0 c.in_ok-finish.ensures.same.2 c.in_ok-finish.ensures.paths in
+    let path = same_next c.args.self.now c.finish.new.self c.in_ok-finish.ensures.same.0 c.in_ok-finish.ensures.same.2 c.in_ok-finish.ensures.paths c.in_ok-finish.ensures.reserved in
     λ free.
     told_error FileBlockHandle (IsUnnumbered c.args.self.now) (IsUnmade c.args.self.now d) (IsBarred c.args.self.now d) c.of_second_append.result (second_append_error c.in-Err.fault) c.of_second_append.ensures
     (taken_second (Unit {0}) FileBlockHandle (IsUnnumbered c.args.self.now) (IsUnmade c.args.self.now d) (IsBarred c.args.self.now d) c.in-Err.fault
     (still_taken (Unit {0}) (Unit {0}) (IsUnmade c.finish.new.self e) (IsBarred c.finish.new.self e) (IsUnmade c.args.self.now d) (IsBarred c.args.self.now d) c.in-Err.fault
-    (unmade_before c.args.self.now c.finish.new.self d e path c.in_ok-finish.ensures.others.directories)
+    (unmade_before c.args.self.now c.finish.new.self d e main c.in_ok-finish.ensures.others.directories)
     (barred_before c.args.self.now c.finish.new.self d e path c.in_ok-finish.ensures.others.directories c.in_ok-finish.ensures.next)
     (c.in-Err.ensures.taken (still_free free c.in_ok-finish.ensures.later))))
 
@@ -235,3 +245,18 @@ returns-in-Err-NoSpace-clause-torn g c =
     (λ alone. alone_on c.go_on.new.self c.put.new.self (g.F.FileSystem.disk c.go_on.new.files) (g.F.FileSystem.disk c.put.new.files) c.in-Err-NoSpace.ensures.same c.in-Err-NoSpace.ensures.paths c.in-Err-NoSpace.ensures.names
     (c.in-Ok.ensures.alone (alone_on c.args.self.now c.finish.new.self (g.F.FileSystem.disk c.args.files.now) (g.F.FileSystem.disk c.finish.new.files) c.in_ok-finish.ensures.same c.in_ok-finish.ensures.paths c.in_ok-finish.ensures.names alone)))
     (λ s u h. inr (unless_no_space c.in-Err-NoSpace.field-0 _ c.in-Err-NoSpace.field-0-is c.in-Err-NoSpace.ensures.unwritten (s ++ u) [] (c.in-Ok.ensures.ok (s ++ u) (c.in_ok-finish.ensures.ok s u h)))) c.give_up.ensures.torn
+
+-- ---- reserved files
+
+pub returns-in_err-finish-clause-reserved : goal.returns-in_err-finish-clause-reserved
+returns-in_err-finish-clause-reserved g c = left_same c.args.self.now.reserved c.finish.new.self.reserved c.in_err-finish.ensures.reserved
+
+pub returns-in-Err-clause-later : goal.returns-in-Err-clause-later
+returns-in-Err-clause-later g c = no_more_then c.in_ok-finish.ensures.later c.in-Err.ensures.later
+
+pub returns-in-Err-NoSpace-clause-reserved : goal.returns-in-Err-NoSpace-clause-reserved
+returns-in-Err-NoSpace-clause-reserved g c =
+    let one = left_same c.args.self.now.reserved c.finish.new.self.reserved c.in_ok-finish.ensures.reserved in
+    let two = last_on c.args.self.now.reserved.items c.finish.new.self.reserved.items c.go_on.new.self.reserved.items one c.in-Ok.ensures.reserved in
+    let three = last_on c.args.self.now.reserved.items c.go_on.new.self.reserved.items c.put.new.self.reserved.items two (left_same c.go_on.new.self.reserved c.put.new.self.reserved c.in-Err-NoSpace.ensures.reserved) in
+    last_on c.args.self.now.reserved.items c.put.new.self.reserved.items c.give_up.new.self.reserved.items three c.give_up.ensures.reserved

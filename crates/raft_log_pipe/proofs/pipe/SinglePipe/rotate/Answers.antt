@@ -15,6 +15,7 @@ use Rattle.raft_log_pipe.proofs.CausedLemmas.{caused_for, exit_cause, place_befo
 use Rattle.std.proofs.Common.{inl}
 use Rattle.raft_log_pipe.specs.Torn.{TearsAtEnd}
 use Rattle.raft_log_pipe.proofs.TornLemmas.{held_torn, torn_next, torn_then}
+use Rattle.raft_log_pipe.proofs.ReuseLemmas.{left_same, takes_before}
 use Rattle.raft_log_pipe.proofs.pipe.SinglePipe.rotate.Goals as goal
 
 pub returns-in_err-go_on-clause-err : goal.returns-in_err-go_on-clause-err
@@ -87,3 +88,13 @@ returns-in_err-go_on-clause-torn g c =
     (torn_next c.args.self.now c.finish.new.self c.go_on.new.self (g.F.FileSystem.disk c.args.files.now) (g.F.FileSystem.disk c.finish.new.files) (g.F.FileSystem.disk c.go_on.new.files)
     (λ alone. alone_on c.args.self.now c.finish.new.self (g.F.FileSystem.disk c.args.files.now) (g.F.FileSystem.disk c.finish.new.files) c.in_ok-finish.ensures.same c.in_ok-finish.ensures.paths c.in_ok-finish.ensures.names alone)
     c.in_ok-finish.ensures.ok c.in_err-go_on.ensures.torn)
+
+-- ---- reserved files
+
+pub returns-in_err-finish-clause-reserved : goal.returns-in_err-finish-clause-reserved
+returns-in_err-finish-clause-reserved g c = left_same c.args.self.now.reserved c.finish.new.self.reserved c.in_err-finish.ensures.reserved
+
+pub returns-clause-takes : goal.returns-clause-takes
+returns-clause-takes g c =
+    takes_before c.args.self.now c.finish.new.self (g.F.FileSystem.disk c.args.files.now) (g.F.FileSystem.disk c.finish.new.files) (g.F.FileSystem.disk c.go_on.new.files) c.go_on.new.self.reserved.items c.go_on.new.self.active
+    c.in_ok-finish.ensures.same.0 c.in_ok-finish.ensures.same.2 c.in_ok-finish.ensures.paths c.in_ok-finish.ensures.reserved c.in_ok-finish.ensures.next c.in_ok-finish.ensures.names c.in_ok-go_on.ensures.takes

@@ -1,4 +1,5 @@
-use Rattle.std.proofs.Common.{refl}
+use Rattle.std.proofs.Common.{refl, subst, sym}
+use Rattle.raft_log_pipe.specs.Pipe.{IsPipe}
 use Rattle.raft_log_pipe.proofs.ChangeLemmas.{pipe_on, synced_holds, synced_writer}
 use Rattle.raft_log_pipe.proofs.PipeLemmas.{changes}
 use Rattle.raft_log_pipe.proofs.OthersLemmas.{last_others, same_others}
@@ -10,6 +11,9 @@ use Rattle.raft_log_pipe.proofs.pipe.SinglePipe.sync.Goals as goal
 
 pub returns-clause-pipe : goal.returns-clause-pipe
 returns-clause-pipe g c = pipe_on c.args.self.now c.args.self.now.writer _ _ c.requires (synced_writer _ _ _ c.requires.writer c.in_ok-sync.ensures.ok) refl (changes _ _ _ _ c.in_ok-sync.ensures.ok)
+
+pub returns-in_err-sync-clause-pipe : goal.returns-in_err-sync-clause-pipe
+returns-in_err-sync-clause-pipe g c = subst (IsPipe c.args.self.now) (sym c.in_err-sync.ensures.err) c.requires
 
 pub returns-clause-ok : goal.returns-clause-ok
 returns-clause-ok g c = synced_holds c.args.self.now _ _ c.requires c.in_ok-sync.ensures.ok

@@ -4,7 +4,7 @@ use Rattle.raft_log_pipes.proofs.QueueLemmas.{beside, both_append, both_rewrite,
 use Rattle.raft_log_pipes.proofs.pipes.DualPipes.append.Goals as goal
 
 pub returns-in-Append-clause-call : goal.returns-in-Append-clause-call
-returns-in-Append-clause-call g c = rw c.in-Append.is (record { pipe = c.append.ensures.pipe; paths = c.append.ensures.paths; alone = c.append.ensures.alone; nearly = c.append.ensures.nearly; files = c.append.ensures.files; ok = c.append.ensures.ok; stands = c.append.ensures.stands; fits = c.append.ensures.fits; err = c.append.ensures.err; torn = c.append.ensures.torn })
+returns-in-Append-clause-call g c = rw c.in-Append.is (record { pipe = c.append.ensures.pipe; paths = c.append.ensures.paths; alone = c.append.ensures.alone; nearly = c.append.ensures.nearly; files = c.append.ensures.files; first = c.append.ensures.first; ok = c.append.ensures.ok; stands = c.append.ensures.stands; fits = c.append.ensures.fits; err = c.append.ensures.err; torn = c.append.ensures.torn })
 
 pub returns-in-Append-clause-others : goal.returns-in-Append-clause-others
 returns-in-Append-clause-others g c = rw c.in-Append.is (keeps_as c.args.self.now.append.queue Append _ _ c.args.self.now.appends c.append.ensures.others)
@@ -17,7 +17,7 @@ returns-in-Append-clause-other g c =
     (keeps_as c.args.self.now.append.queue Append _ _ c.args.self.now.appends c.append.ensures.others))
 
 pub returns-in-Rewrite-clause-call : goal.returns-in-Rewrite-clause-call
-returns-in-Rewrite-clause-call g c = rw c.in-Rewrite.is (record { pipe = c.append-in-Rewrite.ensures.pipe; paths = c.append-in-Rewrite.ensures.paths; alone = c.append-in-Rewrite.ensures.alone; nearly = c.append-in-Rewrite.ensures.nearly; files = c.append-in-Rewrite.ensures.files; ok = c.append-in-Rewrite.ensures.ok; stands = c.append-in-Rewrite.ensures.stands; fits = c.append-in-Rewrite.ensures.fits; err = c.append-in-Rewrite.ensures.err; torn = c.append-in-Rewrite.ensures.torn })
+returns-in-Rewrite-clause-call g c = rw c.in-Rewrite.is (record { pipe = c.append-in-Rewrite.ensures.pipe; paths = c.append-in-Rewrite.ensures.paths; alone = c.append-in-Rewrite.ensures.alone; nearly = c.append-in-Rewrite.ensures.nearly; files = c.append-in-Rewrite.ensures.files; first = c.append-in-Rewrite.ensures.first; ok = c.append-in-Rewrite.ensures.ok; stands = c.append-in-Rewrite.ensures.stands; fits = c.append-in-Rewrite.ensures.fits; err = c.append-in-Rewrite.ensures.err; torn = c.append-in-Rewrite.ensures.torn })
 
 pub returns-in-Rewrite-clause-others : goal.returns-in-Rewrite-clause-others
 returns-in-Rewrite-clause-others g c = rw c.in-Rewrite.is (keeps_as c.args.self.now.rewrite.queue Rewrite _ _ c.args.self.now.rewrites c.append-in-Rewrite.ensures.others)

@@ -5,7 +5,7 @@ use Rattle.raft_log_pipes.proofs.QueueLemmas.{beside, both_append, both_rewrite,
 use Rattle.raft_log_pipes.proofs.pipes.DualPipes.purge_to.Goals as goal
 
 pub returns-in-Append-clause-call : goal.returns-in-Append-clause-call
-returns-in-Append-clause-call g c = rw c.in-Append.is (record { pipe = c.purge_to.ensures.pipe; same = c.purge_to.ensures.same.0; ok = c.purge_to.ensures.ok; out = c.purge_to.ensures.out; within = c.purge_to.ensures.within; bound = c.purge_to.ensures.bound; rest = c.purge_to.ensures.rest; gone = c.purge_to.ensures.gone; holds = c.purge_to.ensures.holds; keeps = c.purge_to.ensures.keeps; paths = c.purge_to.ensures.paths; alone = c.purge_to.ensures.alone; stands = c.purge_to.ensures.stands })
+returns-in-Append-clause-call g c = rw c.in-Append.is (record { pipe = c.purge_to.ensures.pipe; same = c.purge_to.ensures.same.0; ok = c.purge_to.ensures.ok; out = c.purge_to.ensures.out; within = c.purge_to.ensures.within; bound = c.purge_to.ensures.bound; rest = c.purge_to.ensures.rest; gone = c.purge_to.ensures.gone; holds = c.purge_to.ensures.holds; keeps = c.purge_to.ensures.keeps; paths = c.purge_to.ensures.paths; front = c.purge_to.ensures.front; room = c.purge_to.ensures.room; kept = c.purge_to.ensures.kept; alone = c.purge_to.ensures.alone; stands = c.purge_to.ensures.stands })
 
 pub returns-in-Append-clause-others : goal.returns-in-Append-clause-others
 returns-in-Append-clause-others g c = rw c.in-Append.is (keeps_as c.args.self.now.append.queue Append _ _ c.args.self.now.appends (gone_others c.args.self.now.append.queue _ _ _ c.purge_to.ensures.keeps))
@@ -18,7 +18,7 @@ returns-in-Append-clause-other g c =
     (keeps_as c.args.self.now.append.queue Append _ _ c.args.self.now.appends (gone_others c.args.self.now.append.queue _ _ _ c.purge_to.ensures.keeps)))
 
 pub returns-in-Rewrite-clause-call : goal.returns-in-Rewrite-clause-call
-returns-in-Rewrite-clause-call g c = rw c.in-Rewrite.is (record { pipe = c.purge_to-in-Rewrite.ensures.pipe; same = c.purge_to-in-Rewrite.ensures.same.0; ok = c.purge_to-in-Rewrite.ensures.ok; out = c.purge_to-in-Rewrite.ensures.out; within = c.purge_to-in-Rewrite.ensures.within; bound = c.purge_to-in-Rewrite.ensures.bound; rest = c.purge_to-in-Rewrite.ensures.rest; gone = c.purge_to-in-Rewrite.ensures.gone; holds = c.purge_to-in-Rewrite.ensures.holds; keeps = c.purge_to-in-Rewrite.ensures.keeps; paths = c.purge_to-in-Rewrite.ensures.paths; alone = c.purge_to-in-Rewrite.ensures.alone; stands = c.purge_to-in-Rewrite.ensures.stands })
+returns-in-Rewrite-clause-call g c = rw c.in-Rewrite.is (record { pipe = c.purge_to-in-Rewrite.ensures.pipe; same = c.purge_to-in-Rewrite.ensures.same.0; ok = c.purge_to-in-Rewrite.ensures.ok; out = c.purge_to-in-Rewrite.ensures.out; within = c.purge_to-in-Rewrite.ensures.within; bound = c.purge_to-in-Rewrite.ensures.bound; rest = c.purge_to-in-Rewrite.ensures.rest; gone = c.purge_to-in-Rewrite.ensures.gone; holds = c.purge_to-in-Rewrite.ensures.holds; keeps = c.purge_to-in-Rewrite.ensures.keeps; paths = c.purge_to-in-Rewrite.ensures.paths; front = c.purge_to-in-Rewrite.ensures.front; room = c.purge_to-in-Rewrite.ensures.room; kept = c.purge_to-in-Rewrite.ensures.kept; alone = c.purge_to-in-Rewrite.ensures.alone; stands = c.purge_to-in-Rewrite.ensures.stands })
 
 pub returns-in-Rewrite-clause-others : goal.returns-in-Rewrite-clause-others
 returns-in-Rewrite-clause-others g c = rw c.in-Rewrite.is (keeps_as c.args.self.now.rewrite.queue Rewrite _ _ c.args.self.now.rewrites (gone_others c.args.self.now.rewrite.queue _ _ _ c.purge_to-in-Rewrite.ensures.keeps))

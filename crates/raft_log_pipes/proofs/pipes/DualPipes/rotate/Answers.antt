@@ -4,7 +4,7 @@ use Rattle.raft_log_pipes.proofs.QueueLemmas.{beside, both_append, both_rewrite,
 use Rattle.raft_log_pipes.proofs.pipes.DualPipes.rotate.Goals as goal
 
 pub returns-in-Append-clause-call : goal.returns-in-Append-clause-call
-returns-in-Append-clause-call g c = rw c.in-Append.is (record { pipe = c.rotate.ensures.pipe; next = c.rotate.ensures.next; paths = c.rotate.ensures.paths; alone = c.rotate.ensures.alone; nearly = c.rotate.ensures.nearly; ok = c.rotate.ensures.ok; err = c.rotate.ensures.err; torn = c.rotate.ensures.torn })
+returns-in-Append-clause-call g c = rw c.in-Append.is (record { pipe = c.rotate.ensures.pipe; next = c.rotate.ensures.next; takes = c.rotate.ensures.takes; paths = c.rotate.ensures.paths; alone = c.rotate.ensures.alone; nearly = c.rotate.ensures.nearly; ok = c.rotate.ensures.ok; err = c.rotate.ensures.err; torn = c.rotate.ensures.torn })
 
 pub returns-in-Append-clause-others : goal.returns-in-Append-clause-others
 returns-in-Append-clause-others g c = rw c.in-Append.is (keeps_as c.args.self.now.append.queue Append _ _ c.args.self.now.appends c.rotate.ensures.others)
@@ -17,7 +17,7 @@ returns-in-Append-clause-other g c =
     (keeps_as c.args.self.now.append.queue Append _ _ c.args.self.now.appends c.rotate.ensures.others))
 
 pub returns-in-Rewrite-clause-call : goal.returns-in-Rewrite-clause-call
-returns-in-Rewrite-clause-call g c = rw c.in-Rewrite.is (record { pipe = c.rotate-in-Rewrite.ensures.pipe; next = c.rotate-in-Rewrite.ensures.next; paths = c.rotate-in-Rewrite.ensures.paths; alone = c.rotate-in-Rewrite.ensures.alone; nearly = c.rotate-in-Rewrite.ensures.nearly; ok = c.rotate-in-Rewrite.ensures.ok; err = c.rotate-in-Rewrite.ensures.err; torn = c.rotate-in-Rewrite.ensures.torn })
+returns-in-Rewrite-clause-call g c = rw c.in-Rewrite.is (record { pipe = c.rotate-in-Rewrite.ensures.pipe; next = c.rotate-in-Rewrite.ensures.next; takes = c.rotate-in-Rewrite.ensures.takes; paths = c.rotate-in-Rewrite.ensures.paths; alone = c.rotate-in-Rewrite.ensures.alone; nearly = c.rotate-in-Rewrite.ensures.nearly; ok = c.rotate-in-Rewrite.ensures.ok; err = c.rotate-in-Rewrite.ensures.err; torn = c.rotate-in-Rewrite.ensures.torn })
 
 pub returns-in-Rewrite-clause-others : goal.returns-in-Rewrite-clause-others
 returns-in-Rewrite-clause-others g c = rw c.in-Rewrite.is (keeps_as c.args.self.now.rewrite.queue Rewrite _ _ c.args.self.now.rewrites c.rotate-in-Rewrite.ensures.others)
