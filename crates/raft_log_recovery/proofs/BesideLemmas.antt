@@ -294,7 +294,7 @@ only_others directories queue count names d e named numbers only = record {
     subst (λ (l : Names). IsIn (path, fd) l) (sym only.names_stay) there,
     only.files fd (λ name among of.
         let own : Text = path_of directories queue name in
-        other name.seq (ap log_file_of (one_path d.names d.next path own fd named there (found_in d.names own fd of)) ∙ says_name directories queue name (number_of count names numbers name among).0)),
+        other.0 name.seq (ap log_file_of (one_path d.names d.next path own fd named there (found_in d.names own fd of)) ∙ says_name directories queue name (number_of count names numbers name among).0)),
   );
   none = λ path fd other there. subst (λ (l : Names). IsIn (path, fd) l) only.names_stay there;
   next = omega (arith, only.next);

@@ -22,3 +22,5 @@ pub mod CorruptLemmas
 pub mod CausedLemmas
 pub mod HoleLemmas
 pub mod WayLemmas
+pub mod KeptLemmas
+pub mod Unreserved

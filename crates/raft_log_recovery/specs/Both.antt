@@ -1,5 +1,5 @@
 -- Both queues, opened one after the other: the rewrite queue first, unless the append queue has no files.
-use Rattle.std.specs.Prelude.{◌≡◌, ◌⊎◌, List, ◌++◌, Result}
+use Rattle.std.specs.Prelude.{◌≡◌, ◌⊎◌, ℕ, ◌-◌, min, List, ◌++◌, length, map, Result}
 use Rattle.raft_log_records.specs.declared.file_id.LogQueue.{LogQueue}
 use Rattle.raft_log_records.specs.declared.file_id.LogQueue.TheVariants.{Append, Rewrite}
 use Rattle.raft_log_disk.specs.Cause.{Meter}
@@ -7,10 +7,13 @@ use Rattle.raft_log_disk.specs.Disk.{Disk}
 use Rattle.raft_log_disk.specs.Text.{Text}
 use Rattle.raft_log_files.specs.declared.recovery.RecoveryMode.{RecoveryMode}
 use Rattle.raft_log_files.specs.declared.error.Error.{Error}
+use Rattle.raft_log_files.specs.Settings.{Settings, prefill_capacity_of, recycle_capacity_of, settings_of}
 use Rattle.raft_log_pipe.specs.declared.pipe.SinglePipe.{SinglePipe}
 use Rattle.raft_log_pipe.specs.Alone.{IsAlone, IsOnce, directories_of_pipe}
+use Rattle.raft_log_pipe.specs.declared.file.ReservedFile.{ReservedFile}
 use Rattle.raft_log_pipe.specs.Others.{KeepsOthers}
 use Rattle.raft_log_pipe.specs.Pipe.{IsPipe}
+use Rattle.raft_log_pipe.specs.Reserved.{AreReserved}
 use Rattle.raft_log_pipes.specs.declared.pipes.DualPipes.{DualPipes}
 use Rattle.raft_log_pipes.specs.Pipes.{other_queue, pipe_of}
 use Rattle.raft_log_recovery.specs.declared.builder.DualPipesBuilder.{DualPipesBuilder}
@@ -114,3 +117,26 @@ HasFewHoles builder queue old new p = HolesOnlyBroken builder.config.recovery_mo
 -- nor has either pipe
 abbrev pub HaveFewHoles : DualPipesBuilder → Disk → Disk → DualPipes → Type 0
 HaveFewHoles builder old new p = (queue : LogQueue) → HasFewHoles builder queue old new (pipe_of p queue)
+
+-- ---- reserved files
+
+-- those of these names
+abbrev pub as_reserved : List FileName → List ReservedFile
+as_reserved names = map (λ f. record { seq = f.seq; path_id = f.path_id }) names
+
+-- how many files the append queue has at most, those that are kept for reuse and all others
+abbrev pub capacity_in : DualPipesBuilder → ℕ
+capacity_in builder = recycle_capacity_of (settings_of builder.config)
+
+-- a pipe of these directories has this capacity, and the reserved files that were found, if each is there
+pub record KeepsFound (builder : DualPipesBuilder) (queue : LogQueue) (directories : List Text) (d : Disk) (p : SinglePipe) : Type 0 where
+  pub capacity : p.capacity ≡ capacity_in builder
+  pub found : AreReserved queue directories d (as_reserved builder.reserved_file_names.items) → p.reserved.items ≡ as_reserved builder.reserved_file_names.items
+
+-- how many of them an opening wants beside so many append files: as many as are made ahead, and no more than the capacity has room for
+abbrev pub wanted_of : Settings → ℕ → ℕ
+wanted_of settings count = min (prefill_capacity_of settings) (recycle_capacity_of settings - count)
+
+-- beside the append files that a builder has found
+abbrev pub wanted_in : DualPipesBuilder → ℕ
+wanted_in builder = wanted_of (settings_of builder.config) (length builder.append_file_names.items)

@@ -1,15 +1,18 @@
 //! Both queues, recovered and opened one after the other.
 
-ghost use Rattle.std.specs.Prelude.{◌≡◌, ◌⊎◌, ◌++◌, List, [], Err, IfErr, IfOk, IsErr};
+ghost use Rattle.std.specs.Prelude.{◌≡◌, ◌⊎◌, ◌++◌, List, [], Err, IfErr, IfOk, IsErr, OnOk};
 ghost use Rattle.raft_log_disk.specs.Cause.{NothingRefuses, RefusesNoMore};
 ghost use Rattle.raft_log_files.specs.Settings.{settings_of};
 ghost use Rattle.raft_log_files.specs.declared.error.CorruptionFault.{CorruptionFault};
-ghost use Rattle.raft_log_files.specs.declared.error.Error.TheVariants.{Corruption};
+ghost use Rattle.raft_log_files.specs.declared.error.Error.TheVariants.{Corruption, Memory};
+ghost use Rattle.raft_log_pipe.specs.Alone.{directories_of_pipe};
+ghost use Rattle.raft_log_pipe.specs.Kept.{with_reserved};
 ghost use Rattle.raft_log_pipe.specs.Others.{KeepsOthers};
 ghost use Rattle.raft_log_pipes.specs.Pipes.{ArePipes, other_queue, pipe_of};
 ghost use Rattle.raft_log_records.specs.declared.file_id.LogQueue.{LogQueue};
 ghost use Rattle.raft_log_records.specs.declared.file_id.LogQueue.TheVariants.{Append, Rewrite};
-ghost use Rattle.raft_log_recovery.specs.Both.{AreOpened, ArePipesWith, AreTaken, CantBeOpened, HasFewHoles, HaveFewHoles, IsEitherFault, IsFaultOf, IsFoundBy, IsOpened, LeavesBoth, LeavesQueue};
+ghost use Rattle.raft_log_recovery.specs.Both.{AreOpened, ArePipesWith, AreTaken, CantBeOpened, HasFewHoles, HaveFewHoles, IsEitherFault, IsFaultOf, IsFoundBy};
+ghost use Rattle.raft_log_recovery.specs.Both.{IsOpened, KeepsFound, LeavesBoth, LeavesQueue, as_reserved};
 ghost use Rattle.raft_log_recovery.specs.Opening.{IsPipeWith};
 ghost use Rattle.raft_log_recovery.specs.Queue.{ChangesAtMost, directories_in, names_in};
 ghost use Rattle.raft_log_recovery.specs.declared.scan.FileKind.TheVariants.{Log};
@@ -19,10 +22,26 @@ ghost use Rattle.raft_log_recovery.specs.Ways.{IsWay, Recovers};
 
 use crate::builder::DualPipesBuilder;
 use crate::machine::{Factory, ReplayMachine};
+use crate::scan::FileName;
 use raft_log_files::{Error, FileSystem, RecoveryConfig};
-use raft_log_pipe::{File, SinglePipe};
+use raft_log_pipe::{File, ReservedFile, SinglePipe};
 use raft_log_pipes::DualPipes;
 use raft_log_records::LogQueue;
+use std::alloc::{AllocError, Global};
+
+// Reserved files by their names.
+fn reserved_of(alloc: Global, found: &[FileName]) -> Result<Vec<ReservedFile>, AllocError>
+    ensures { IfOk result (λ v. v.items ≡ as_reserved found.now) }
+{
+    let mut reserved = Vec::new(alloc);
+    for file in found {
+        reserved.push(ReservedFile {
+            seq: file.seq,
+            path_id: file.path_id,
+        })?;
+    }
+    Ok(reserved)
+}
 
 // The other queue.
 fn other_of(queue: LogQueue) -> LogQueue
@@ -117,6 +136,21 @@ impl DualPipesBuilder {
         }
     }
 
+    /// Hands the reserved files that `scan` found over to the append queue's pipe, with the capacity
+    /// that the settings say: also where it is 0, so that they can be deleted.
+    fn with_found<F: FileSystem>(&self, files: &F, pipes: &mut DualPipes) -> Result<(), Error>
+        requires { ArePipes pipes.old (F.disk files.now) }
+        ensures pipes { ArePipes pipes.new (F.disk files.now) }
+        ensures append { pipes.new.append ≡ with_reserved pipes.old.append pipes.new.append.reserved pipes.new.append.capacity }
+        ensures rewrite { pipes.new.rewrite ≡ pipes.old.rewrite }
+        ensures reserved { OnOk result (KeepsFound self.now pipes.old.append.queue (directories_of_pipe pipes.old.append) (F.disk files.now) pipes.new.append) }
+        ensures cause { IfErr result (λ e. e ≡ Memory) }
+    {
+        let found = reserved_of(self.alloc, &self.reserved_file_names)?;
+        let capacity = self.config.recycle_capacity();
+        pipes.keep_reserved(files, found, capacity)
+    }
+
     /// Recovers the files of both queues that `scan` found in this way, and opens the pipes over them
     /// (own; raft-engine's `recover` and `finish`): a way does with a queue's files what
     /// `recover_queue` does. The rewrite queue comes first, so that one machine
@@ -137,6 +171,7 @@ impl DualPipesBuilder {
         ensures pipes { IfOk result (λ r. ArePipes r.0 (F.disk files.new)) }
         ensures opened { IfOk result (λ r. AreOpened self.now (F.disk files.old) (F.disk files.new) r.0) }
         ensures replayed { IfOk result (λ r. (all : List Placed) × M.has_replayed r.1 all × ArePipesWith self.now (F.disk files.old) (F.disk files.new) r.0 all) }
+        ensures reserved { IfOk result (λ r. KeepsFound self.now Append (directories_in self.now) (F.disk files.new) r.0.append) }
         ensures leaves { LeavesBoth self.now.config.recovery_mode self.now (F.disk files.old) (F.disk files.new) }
         ensures refused { (queue : LogQueue) → CantBeOpened self.now.config.recovery_mode self.now queue (F.disk files.old) → IsErr result }
         ensures corrupt { (f : CorruptionFault) → result ≡ Err (Corruption f) → (queue : LogQueue) × CantBeOpened self.now.config.recovery_mode self.now queue (F.disk files.old) }
@@ -147,7 +182,8 @@ impl DualPipesBuilder {
     {
         let mut machine = factory.new_target();
         let first = self.first_queue();
-        let pipes = self.open_both(way, files, first, &mut machine)?;
+        let mut pipes = self.open_both(way, files, first, &mut machine)?;
+        self.with_found(files, &mut pipes)?;
         Ok((pipes, machine))
     }
 
@@ -164,6 +200,7 @@ impl DualPipesBuilder {
         ensures pipes { IfOk result (λ r. ArePipes r.0 (F.disk files.new)) }
         ensures opened { IfOk result (λ r. AreOpened self.now (F.disk files.old) (F.disk files.new) r.0) }
         ensures replayed { IfOk result (λ r. (all : List Placed) × M.has_replayed r.1 all × ArePipesWith self.now (F.disk files.old) (F.disk files.new) r.0 all) }
+        ensures reserved { IfOk result (λ r. KeepsFound self.now Append (directories_in self.now) (F.disk files.new) r.0.append) }
         ensures leaves { LeavesBoth self.now.config.recovery_mode self.now (F.disk files.old) (F.disk files.new) }
         ensures refused { (queue : LogQueue) → CantBeOpened self.now.config.recovery_mode self.now queue (F.disk files.old) → IsErr result }
         ensures corrupt { (f : CorruptionFault) → result ≡ Err (Corruption f) → (queue : LogQueue) × CantBeOpened self.now.config.recovery_mode self.now queue (F.disk files.old) }

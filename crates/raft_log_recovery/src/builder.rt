@@ -5,6 +5,7 @@ ghost use Rattle.raft_log_records.specs.declared.file_id.LogQueue.TheVariants.{A
 ghost use Rattle.raft_log_disk.specs.Cause.{NothingRefuses, RefusesNoMore};
 ghost use Rattle.raft_log_files.specs.Settings.{settings_of};
 ghost use Rattle.raft_log_recovery.specs.declared.scan.FileKind.TheVariants.{Log, Reserved};
+ghost use Rattle.raft_log_recovery.specs.Both.{wanted_in};
 ghost use Rattle.raft_log_recovery.specs.Scan.{AllMade, AnyFile, AreFound, IsMadeUnless, IsScanFault, OnlyMakes, directories_of};
 
 use crate::directories::{directories_in, make_directories};
@@ -83,5 +84,16 @@ impl DualPipesBuilder {
         self.rewrite_file_names = rewrite;
         self.reserved_file_names = reserved;
         Ok(())
+    }
+
+    /// How many reserved files an opening keeps and makes: as many as the settings say are made ahead
+    /// (`Config::prefill_capacity`), and no more than `Config::recycle_capacity` has room for beside
+    /// the append files that `scan` found. 0 without prefill (raft-engine's `initialize_files`).
+    pub fn wanted_reserved(&self) -> u64
+        ensures { result ≡ wanted_in self.now }
+    {
+        let count = self.append_file_names.len() as u64;
+        let room = self.config.recycle_capacity().saturating_sub(count);
+        self.config.prefill_capacity().min(room)
     }
 }
