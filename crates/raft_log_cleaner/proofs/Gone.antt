@@ -1,5 +1,5 @@
 -- Files of the append queue that went, and a file that was begun.
-use Rattle.std.proofs.Common.{◌≡◌, ◌⊎◌, inl, inr, ⊎_elim, ℕ, ◌+◌, ◌-◌, ◌<◌, ◌≤◌, Bool, true, false, cond, List, [], ◌∷◌, ◌++◌, length, Option, Some, None, refl, sym, ap, subst, ◌∙◌, arith, drop, ltb-true, ltb-false, length-append}
+use Rattle.std.proofs.Common.{◌≡◌, ◌⊎◌, inl, inr, ⊎_elim, ℕ, ◌+◌, ◌-◌, ◌<◌, ◌≤◌, Bool, true, false, cond, List, [], ◌∷◌, ◌++◌, length, Option, Some, None, refl, sym, ap, subst, ◌∙◌, arith, drop, ltb-true, ltb-false}
 use Rattle.std.specs.Prelude.{Result, Ok, Err, IfOk, IfSome, IsSome, nat_lt, ◌==◌}
 use Rattle.std.specs.Option.{option_map}
 use Rattle.std.proofs.lemmas.Bool.{le-ltb}
@@ -17,6 +17,7 @@ use Rattle.raft_log_pipe.specs.Blocks.{files_of, of_file}
 use Rattle.raft_log_pipe.specs.Pipe.{Holds, IsPipe, Leaves, Numbered, first_of, id_of}
 use Rattle.raft_log_pipe.specs.Purging.{AreLastOf, HoldsRest, from_file}
 use Rattle.raft_log_pipe.proofs.BlockLemmas.{in_last, is_last, is_older, more_files}
+use Rattle.raft_log_pipe.proofs.FirstLemmas.{begun_first}
 use Rattle.raft_log_pipe.proofs.PurgeLemmas.{in_last_files}
 use Rattle.raft_log_pipes.specs.Calls.{IsPurgeOf}
 use Rattle.raft_log_pipes.specs.declared.pipes.DualPipes.{DualPipes}
@@ -306,9 +307,6 @@ module _ (d e : Disk) (p q : DualPipes) (log : TracedTables) (content : Content 
       }
 
 -- ---- a new file was begun
-
-pub begun_first : (p q : SinglePipe) → (q.active.seq ≡ p.active.seq + 1) × (q.older.items ≡ p.older.items ++ p.active ∷ []) → first_of q ≡ first_of p
-begun_first p q next = omega (arith, next.0, ap length next.1, length-append p.older.items (p.active ∷ []))
 
 module _ (d e : Disk) (p q : DualPipes) (log : TracedTables) (content : Content (List ℕ)) (can : CanClean d p log content) (pipes : ArePipes q e) where
   -- of the append queue

@@ -20,7 +20,7 @@ use Rattle.raft_log_pipe.proofs.BlockLemmas.{is_last, is_older, older_below}
 use Rattle.raft_log_pipe.proofs.NextLemmas.{path_says, some_is}
 use Rattle.raft_log_pipe.proofs.OthersLemmas.{found_there}
 use Rattle.raft_log_pipe.proofs.PipeLemmas.{in_all}
-use Rattle.raft_log_pipe.proofs.PurgeLemmas.{in_files, same_number}
+use Rattle.raft_log_pipe.proofs.PurgeLemmas.{in_files, log_kept, same_number}
 use Rattle.raft_log_pipe.proofs.TornLemmas.{held_torn}
 use Rattle.raft_log_pipes.specs.Calls.{IsPurgeOf}
 use Rattle.raft_log_pipes.specs.declared.pipes.DualPipes.{DualPipes}
@@ -116,7 +116,8 @@ module _ (p q : SinglePipe) (d e : Disk) (named : IsNamed d) (named_then : IsNam
   stood : (seq at fd : ℕ) → StandsAt e.names dirs p.queue seq at fd → StandsAt d.names dirs p.queue seq at fd
   stood seq at fd s =
       let path : Text = path_in dirs at (id_of p.queue seq) in
-      (s.0, s.1, found_there d.names d.next path fd named (keeps.files path fd (found_in e.names path fd s.2)).0)
+      let says = path_says (get_or dirs at []) (log_file_name (id_of p.queue seq)) path (id_of p.queue seq) s.0 refl refl in
+      (s.0, s.1, found_there d.names d.next path fd named (log_kept p.queue (first_of q) d e path (id_of p.queue seq) fd keeps says (found_in e.names path fd s.2)).0)
 
   -- a file of before from the first number on stands
   stands_still : (g : File) → IsIn g (files_of p) → first_of q ≤ g.seq → StandsAt e.names dirs p.queue g.seq g.path_id g.handle.0
@@ -219,7 +220,7 @@ refused_stands d e p q content reads left = record {
 
 stands_behind : (p q r s : SinglePipe) (d e f : Disk) → KeepsPipe p d q e → StandsFor q e r f s → StandsFor p d r f s
 stands_behind p q r s d e f one two = record {
-  set = (two.set.0 ∙ one.set.0, two.set.1 ∙ one.set.1);
+  set = (two.set.0 ∙ one.set.0, two.set.1 ∙ one.set.1, two.set.2 ∙ one.set.2);
   paths = (two.paths.0 ∙ one.paths, two.paths.1 ∙ one.paths);
   nearly = λ alone. two.nearly (one.alone alone);
   torn = λ alone. two.torn (one.alone alone);

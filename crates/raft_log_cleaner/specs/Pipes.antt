@@ -20,11 +20,22 @@ pub record KeepsPipe (old : SinglePipe) (d : Disk) (new : SinglePipe) (e : Disk)
 abbrev pub KeepBoth : Disk → DualPipes → Disk → DualPipes → Type 0
 KeepBoth d p e q = KeepsPipe p.append d q.append e × KeepsPipe p.rewrite d q.rewrite e
 
+-- No file of the rewrite queue went: its first number is as it was
+abbrev pub KeepsRewrites : DualPipes → DualPipes → Type 0
+KeepsRewrites p q = first_of q.rewrite ≡ first_of p.rewrite
+
 -- Both do, and no file of the append queue went
+pub record KeepsAppends (d : Disk) (p : DualPipes) (e : Disk) (q : DualPipes) : Type 0 where
+  pub append : KeepsPipe p.append d q.append e
+  pub rewrite : KeepsPipe p.rewrite d q.rewrite e
+  pub first : first_of q.append ≡ first_of p.append
+
+-- Both do, and no file of either queue went
 pub record KeepsPipes (d : Disk) (p : DualPipes) (e : Disk) (q : DualPipes) : Type 0 where
   pub append : KeepsPipe p.append d q.append e
   pub rewrite : KeepsPipe p.rewrite d q.rewrite e
   pub first : first_of q.append ≡ first_of p.append
+  pub rewrites : KeepsRewrites p q
 
 -- Behind a refusal a pipe has its settings and its directories. If its files were the last ones of its queue, a crash leaves no
 -- batches of files behind them, and at most the newest of all torn

@@ -5,7 +5,7 @@ ghost use Rattle.std.specs.Ordering.{nat_cmp};
 ghost use Rattle.std.specs.Prelude.{◌≡◌, ◌+◌, ◌<◌, ◌^◌, ◌↔◌, ℕ, [], true, IfNone, IfOk, IfSome, IsOkAnd, IsTrue, OnErr, OnOk};
 ghost use Rattle.raft_log_cleaner.specs.Cleaning.{CanCleanSome, Cleans, Finishes, GoesOn, IsCleaningSome, IsLeftStanding, KeepsFromBarrier};
 ghost use Rattle.raft_log_cleaner.specs.Facts.{TellEntries};
-ghost use Rattle.raft_log_cleaner.specs.Pipes.{KeepBoth, KeepsPipe, KeepsPipes, LeavesPipes};
+ghost use Rattle.raft_log_cleaner.specs.Pipes.{KeepBoth, KeepsPipe, KeepsPipes, KeepsRewrites, LeavesPipes};
 ghost use Rattle.raft_log_cleaner.specs.Told.{AreTold, is_among, marks_of_pipe, queue_of};
 ghost use Rattle.raft_log_disk.specs.Cause.{RefusesNoMore};
 ghost use Rattle.raft_log_memtables.specs.MemTables.{content_in};
@@ -329,6 +329,7 @@ impl PurgeManager {
         ensures gone { OnOk result (GoesToNeeded (traces_in log.now.traces) barrier pipes.old.append pipes.new.append) }
         ensures count { IfOk result (λ n. first_of pipes.old.append + n ≡ first_of pipes.new.append) }
         ensures kept { KeepsPipe pipes.old.rewrite (F.disk files.old) pipes.new.rewrite (F.disk files.new) }
+        ensures held { KeepsRewrites pipes.old pipes.new }
         ensures set { KeepSettings pipes.old pipes.new }
         ensures both { OnOk result (KeepBoth (F.disk files.old) pipes.old (F.disk files.new) pipes.new) }
         ensures stands { OnErr result (IsLeftStanding (F.disk files.old) pipes.old log.now (F.disk files.new) pipes.new) }
@@ -374,6 +375,7 @@ impl PurgeManager {
         ensures cleans { Cleans (F.disk files.old) pipes.old log.old (F.disk files.new) pipes.new log.new result }
         ensures barrier { KeepsFromBarrier barrier pipes.old pipes.new }
         ensures gone { OnOk result (GoesToNeeded (traces_in log.new.traces) barrier pipes.old.append pipes.new.append) }
+        ensures held { OnOk result (KeepsRewrites pipes.old pipes.new) }
         ensures both { OnOk result (KeepBoth (F.disk files.old) pipes.old (F.disk files.new) pipes.new) }
         ensures stands { OnErr result (IsLeftStanding (F.disk files.old) pipes.old log.old (F.disk files.new) pipes.new) }
         ensures later { RefusesNoMore (F.is_bounded files.old) (F.is_bounded files.new) (F.meter files.old) (F.meter files.new) }
@@ -409,6 +411,7 @@ impl PurgeManager {
         ensures barrier { KeepsFromBarrier barrier pipes.old pipes.new }
         ensures gone { IsLarge (queue_of pipes.old.append) self.old.purge_threshold
             → OnOk result (GoesToNeeded (traces_in log.new.traces) barrier pipes.old.append pipes.new.append) }
+        ensures held { OnOk result (KeepsRewrites pipes.old pipes.new) }
         ensures both { OnOk result (KeepBoth (F.disk files.old) pipes.old (F.disk files.new) pipes.new) }
         ensures stands { OnErr result (IsLeftStanding (F.disk files.old) pipes.old log.old (F.disk files.new) pipes.new) }
         ensures later { RefusesNoMore (F.is_bounded files.old) (F.is_bounded files.new) (F.meter files.old) (F.meter files.new) }

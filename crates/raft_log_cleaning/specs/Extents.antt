@@ -19,6 +19,10 @@ pub record MayClean (extent : Extent) (log : TracedTables) : Type 0 where
   pub unmarked : log.has_marked ≡ false
   pub together : writes_anew extent ≡ true → log.is_parted ≡ false
 
+-- all files that the rewrite queue had are gone: its first one has a number behind all of theirs
+abbrev pub HasNewRewrites : DualPipes → DualPipes → Type 0
+HasNewRewrites p q = first_of q.rewrite ≡ p.rewrite.active.seq + 1
+
 -- all files that the rewrite queue had are gone, and those of the append queue are all there
 pub record HasOnlyNew (p q : DualPipes) : Type 0 where
   pub rewrite : first_of q.rewrite ≡ p.rewrite.active.seq + 1

@@ -5,9 +5,9 @@ ghost use Rattle.std.specs.Ordering.{nat_cmp};
 ghost use Rattle.std.specs.Prelude.{◌≡◌, ◌+◌, ◌↔◌, ℕ, true, false, IfOk, IsTrue, OnErr, OnOk, Option};
 ghost use Rattle.raft_log_cleaner.specs.Cleaning.{CanCleanSome, Cleans, IsLeftStanding, KeepsFromBarrier};
 ghost use Rattle.raft_log_cleaner.specs.Live.{AreLive};
-ghost use Rattle.raft_log_cleaner.specs.Pipes.{KeepBoth};
+ghost use Rattle.raft_log_cleaner.specs.Pipes.{KeepBoth, KeepsRewrites};
 ghost use Rattle.raft_log_cleaner.specs.Told.{AreTold, is_among, marks_of_pipe, queue_of};
-ghost use Rattle.raft_log_cleaning.specs.Extents.{HasOnlyNew, MayClean};
+ghost use Rattle.raft_log_cleaning.specs.Extents.{HasNewRewrites, HasOnlyNew, MayClean, writes_anew};
 ghost use Rattle.raft_log_cleaning.specs.Told.{IsCleanedAnew};
 ghost use Rattle.raft_log_cleaning.specs.Stale.{IsPurged};
 ghost use Rattle.raft_log_cleaning.specs.declared.cleaning.Extent.TheVariants.{All, Expired, Rewrites, Stale};
@@ -79,6 +79,7 @@ fn clean_all<F: FileSystem>(
     ensures barrier { OnOk result (KeepsFromBarrier barrier pipes.old pipes.new) }
     ensures gone { OnOk result (GoesToNeeded (traces_in log.new.traces) barrier pipes.old.append pipes.new.append) }
     ensures count { IfOk result (λ n. first_of pipes.old.append + n ≡ first_of pipes.new.append) }
+    ensures held { OnOk result (KeepsRewrites pipes.old pipes.new) }
     ensures later { RefusesNoMore (F.is_bounded files.old) (F.is_bounded files.new) (F.meter files.old) (F.meter files.new) }
 {
     if let Err(error) = manager.must_rewrite_append_queue(files, pipes, log, None, step) {
@@ -106,6 +107,7 @@ fn purge_stale<F: FileSystem>(
     ensures barrier { OnOk result (KeepsFromBarrier barrier pipes.old pipes.new) }
     ensures purged { OnOk result (IsPurged (F.disk files.old) pipes.old log.old barrier (F.disk files.new) pipes.new log.new) }
     ensures count { IfOk result (λ n. first_of pipes.old.append + n ≡ first_of pipes.new.append) }
+    ensures replaced { OnOk result (HasNewRewrites pipes.old pipes.new) }
     ensures later { RefusesNoMore (F.is_bounded files.old) (F.is_bounded files.new) (F.meter files.old) (F.meter files.new) }
 {
     if let Err(error) = write_anew(alloc, files, pipes, log) {
@@ -137,6 +139,8 @@ pub fn clean<F: FileSystem>(
     ensures stale { extent ≡ Stale → OnOk result (IsPurged (F.disk files.old) pipes.old log.old barrier (F.disk files.new) pipes.new log.new) }
     ensures count { extent ≡ All → IfOk result (λ done. first_of pipes.old.append + done.went ≡ first_of pipes.new.append) }
     ensures stale_count { extent ≡ Stale → IfOk result (λ done. first_of pipes.old.append + done.went ≡ first_of pipes.new.append) }
+    ensures held { writes_anew extent ≡ false → OnOk result (KeepsRewrites pipes.old pipes.new) }
+    ensures replaced { writes_anew extent ≡ true → OnOk result (HasNewRewrites pipes.old pipes.new) }
     ensures anew { extent ≡ Rewrites → OnOk result (HasOnlyNew pipes.old pipes.new) }
     ensures begins_again { extent ≡ Rewrites → OnOk result (AreLive log.old log.new.written) }
     ensures told { (due : Due) → extent ≡ Expired due → due.rewrites ≡ false → IsLarge (queue_of pipes.old.append) manager.old.purge_threshold

@@ -5,9 +5,9 @@ ghost use Rattle.std.specs.Ordering.{nat_cmp};
 ghost use Rattle.std.specs.Prelude.{◌≡◌, ◌+◌, ℕ, false, true, IfOk, OnErr, OnOk, Option};
 ghost use Rattle.raft_log_cleaner.specs.Cleaning.{CanCleanSome, Cleans, IsLeftStanding, KeepsFromBarrier};
 ghost use Rattle.raft_log_cleaner.specs.Live.{AreLive};
-ghost use Rattle.raft_log_cleaner.specs.Pipes.{KeepBoth};
+ghost use Rattle.raft_log_cleaner.specs.Pipes.{KeepBoth, KeepsRewrites};
 ghost use Rattle.raft_log_cleaner.specs.Told.{AreTold, is_among, marks_of_pipe, queue_of};
-ghost use Rattle.raft_log_cleaning.specs.Extents.{HasOnlyNew};
+ghost use Rattle.raft_log_cleaning.specs.Extents.{HasNewRewrites, HasOnlyNew};
 ghost use Rattle.raft_log_cleaning.specs.Told.{AreMany, IsCleanedAnew, IsToldBehind, is_named};
 ghost use Rattle.raft_log_disk.specs.Cause.{RefusesNoMore};
 ghost use Rattle.raft_log_memtables.specs.MemTables.{content_in};
@@ -106,6 +106,7 @@ fn purge_appends<F: FileSystem>(
 ) -> Result<Vec<u64>, Error>
     requires { CanCleanSome (F.disk files.old) pipes.old log.old }
     ensures cleans { Cleans (F.disk files.old) pipes.old log.old (F.disk files.new) pipes.new log.new result }
+    ensures held { OnOk result (KeepsRewrites pipes.old pipes.new) }
     ensures both { OnOk result (KeepBoth (F.disk files.old) pipes.old (F.disk files.new) pipes.new) }
     ensures stands { OnErr result (IsLeftStanding (F.disk files.old) pipes.old log.old (F.disk files.new) pipes.new) }
     ensures barrier { OnOk result (KeepsFromBarrier barrier pipes.old pipes.new) }
@@ -144,6 +145,7 @@ fn purge_both<F: FileSystem>(
     ensures rising { IfOk result (λ told. IsStrictlySortedBy nat_cmp told.items) }
     ensures there { IfOk result (λ told. (group : ℕ) → is_among told.items group ≡ true → (content_in log.old.tables group).there ≡ true) }
     ensures anew { IfOk result (λ told. IsCleanedAnew (F.disk files.old) pipes.old log.old manager.old (F.disk files.new) pipes.new log.new manager.new.reports told.items) }
+    ensures replaced { OnOk result (HasNewRewrites pipes.old pipes.new) }
     ensures threshold { manager.new.purge_threshold ≡ manager.old.purge_threshold }
     ensures later { RefusesNoMore (F.is_bounded files.old) (F.is_bounded files.new) (F.meter files.old) (F.meter files.new) }
 {
@@ -171,6 +173,8 @@ pub(crate) fn purge_expired<F: FileSystem>(
         → OnOk result (GoesToNeeded (traces_in log.new.traces) barrier pipes.old.append pipes.new.append) }
     ensures rising { IfOk result (λ told. IsStrictlySortedBy nat_cmp told.items) }
     ensures there { IfOk result (λ told. (group : ℕ) → is_among told.items group ≡ true → (content_in log.old.tables group).there ≡ true) }
+    ensures held { due.rewrites ≡ false → OnOk result (KeepsRewrites pipes.old pipes.new) }
+    ensures replaced { due.rewrites ≡ true → OnOk result (HasNewRewrites pipes.old pipes.new) }
     ensures anew { due.rewrites ≡ true → IfOk result (λ told. IsCleanedAnew (F.disk files.old) pipes.old log.old manager.old
         (F.disk files.new) pipes.new log.new manager.new.reports told.items) }
     ensures told { due.rewrites ≡ false → IsLarge (queue_of pipes.old.append) manager.old.purge_threshold

@@ -22,7 +22,7 @@ use Rattle.raft_log_blocks.specs.Held.{IsTabled}
 use Rattle.raft_log_traced.specs.declared.traced.TracedTables.{TracedTables}
 use Rattle.raft_log_traced.specs.Traced.{lies_in}
 use Rattle.raft_log_cleaner.specs.Cleaning.{CanClean, LeavesContent, LeavesStanding, filed, records_of}
-use Rattle.raft_log_cleaner.specs.Pipes.{KeepsPipes, LeavesPipes}
+use Rattle.raft_log_cleaner.specs.Pipes.{KeepsAppends, KeepsPipes, LeavesPipes}
 use Rattle.raft_log_cleaner.specs.Written.{written_at}
 use Rattle.raft_log_rewriter.specs.Parts.{MayFollow}
 
@@ -135,5 +135,5 @@ pub record LetsGo {X E : Type 0} (d : Disk) (p : DualPipes) (log : TracedTables)
   pub ok : (content : Content (List ℕ)) → HasRewritten d p log next content → OnOk result (CanRewrite e q log content)
   pub err : (content : Content (List ℕ)) → HasRewritten d p log next content → OnErr result (LeavesContent e q content)
   pub append : IsAsBefore p.append d q.append e
-  pub kept : OnOk result (KeepsPipes d p e q)
+  pub kept : OnOk result (KeepsAppends d p e q)
   pub left : (content : Content (List ℕ)) → HasRewritten d p log next content → OnErr result (LeavesStanding d p e q content)

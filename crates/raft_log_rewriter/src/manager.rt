@@ -1,7 +1,7 @@
 //! The rewrite queue, written anew.
 
 ghost use Rattle.std.specs.Prelude.{◌≡◌, ◌+◌, ◌++◌, ℕ, List, [], IfOk, OnErr, OnOk};
-ghost use Rattle.raft_log_cleaner.specs.Pipes.{KeepsPipes};
+ghost use Rattle.raft_log_cleaner.specs.Pipes.{KeepsAppends};
 ghost use Rattle.raft_log_disk.specs.Cause.{RefusesNoMore};
 ghost use Rattle.raft_log_memtables.specs.Content.{Content};
 ghost use Rattle.raft_log_pipe.specs.Pipe.{first_of};
@@ -106,7 +106,7 @@ pub fn must_rewrite_rewrite_queue<F: FileSystem>(
     ensures rewrites { Rewrites (F.disk files.old) pipes.old log.old (F.disk files.new) pipes.new log.new result }
     ensures gone { OnOk result (first_of pipes.new.rewrite ≡ pipes.old.rewrite.active.seq + 1) }
     ensures append { pipes.new.append ≡ pipes.old.append }
-    ensures kept { OnOk result (KeepsPipes (F.disk files.old) pipes.old (F.disk files.new) pipes.new) }
+    ensures kept { OnOk result (KeepsAppends (F.disk files.old) pipes.old (F.disk files.new) pipes.new) }
     ensures left { OnErr result (IsLeftStanding (F.disk files.old) pipes.old log.old (F.disk files.new) pipes.new) }
     ensures later { RefusesNoMore (F.is_bounded files.old) (F.is_bounded files.new) (F.meter files.old) (F.meter files.new) }
 {

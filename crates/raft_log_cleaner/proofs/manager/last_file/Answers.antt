@@ -1,7 +1,9 @@
 -- A file that is named, or a new one that is begun.
-use Rattle.std.proofs.Common.{[]}
+use Rattle.std.proofs.Common.{[], ap}
 use Rattle.raft_log_cleaner.proofs.Going.{none_ok, when_err}
-use Rattle.raft_log_cleaner.proofs.Gone.{append_begun, begun_first, not_begun}
+use Rattle.raft_log_pipe.specs.Pipe.{first_of}
+use Rattle.raft_log_pipe.proofs.FirstLemmas.{begun_first}
+use Rattle.raft_log_cleaner.proofs.Gone.{append_begun, not_begun}
 use Rattle.raft_log_cleaner.proofs.Keeping.{pipe_as_before, pipe_left, pipe_refused}
 use Rattle.raft_log_cleaner.proofs.manager.last_file.Goals as goal
 
@@ -44,6 +46,7 @@ returns g c =
         append = record { set = c.in_ok-rotate.ensures.set.0; paths = call.paths; alone = call.alone };
         rewrite = pipe_as_before p.rewrite q.rewrite d e other;
         first = begun_first p.append q.append call.next;
+        rewrites = ap first_of other.same;
       };
       left = tt;
       later = c.in_ok-rotate.ensures.later;

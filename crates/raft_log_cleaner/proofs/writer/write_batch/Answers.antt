@@ -100,6 +100,7 @@ returns-clause-goes_on g c =
         append = pipe_as_before p.append q.append d e c.in_ok-written.ensures.other;
         rewrite = record { set = c.in_ok-written.ensures.set.1; paths = call.paths; alone = call.alone };
         first = ap first_of c.in_ok-written.ensures.other.same;
+        rewrites = call.first;
       };
       left = λ content s. tt;
     }

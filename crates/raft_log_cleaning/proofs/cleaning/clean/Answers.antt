@@ -2,6 +2,7 @@
 use Rattle.std.proofs.Common.{◌≡◌, ap, subst, sym, ◌∙◌}
 use Rattle.std.specs.List.Sorted.{IsStrictlySortedBy}
 use Rattle.std.specs.Ordering.{nat_cmp}
+use Rattle.std.proofs.lemmas.Bool.{false≢true}
 use Rattle.raft_log_cleaning.specs.declared.due.Due.{Due}
 use Rattle.raft_log_cleaning.proofs.cleaning.clean.Goals as goal
 
@@ -24,3 +25,23 @@ returns-in-Ok-purge_expired-clause-both_queues g c = λ due is rewrites.
 pub returns-in-Ok-purge_stale-clause-rising : goal.returns-in-Ok-purge_stale-clause-rising
 unfolding IsStrictlySortedBy
 returns-in-Ok-purge_stale-clause-rising g c = subst (IsStrictlySortedBy nat_cmp) (sym c.new-in-Ok-purge_stale.ensures.items) tt
+
+-- ---- files of the rewrite queue
+
+pub returns-in-Ok-clause-replaced : goal.returns-in-Ok-clause-replaced
+returns-in-Ok-clause-replaced g c = rw c.in-All.is (λ anew. absurd (false≢true anew))
+
+pub returns-in-Ok-purge_expired-clause-held : goal.returns-in-Ok-purge_expired-clause-held
+returns-in-Ok-purge_expired-clause-held g c = rw c.in-Expired.is c.in-Ok-purge_expired.ensures.held
+
+pub returns-in-Ok-purge_expired-clause-replaced : goal.returns-in-Ok-purge_expired-clause-replaced
+returns-in-Ok-purge_expired-clause-replaced g c = rw c.in-Expired.is c.in-Ok-purge_expired.ensures.replaced
+
+pub returns-in-Ok-write_anew-clause-held : goal.returns-in-Ok-write_anew-clause-held
+returns-in-Ok-write_anew-clause-held g c = rw c.in-Rewrites.is (λ kept. absurd (false≢true (sym kept)))
+
+pub returns-in-Ok-write_anew-clause-replaced : goal.returns-in-Ok-write_anew-clause-replaced
+returns-in-Ok-write_anew-clause-replaced g c = λ anew. c.in-Ok-write_anew.ensures.anew.rewrite
+
+pub returns-in-Ok-purge_stale-clause-held : goal.returns-in-Ok-purge_stale-clause-held
+returns-in-Ok-purge_stale-clause-held g c = rw c.in-Stale.is (λ kept. absurd (false≢true (sym kept)))

@@ -1,5 +1,5 @@
 -- A rewriting, and files that go.
-use Rattle.std.proofs.Common.{◌≡◌, ◌⊎◌, ℕ, ◌+◌, ◌≤◌, subst}
+use Rattle.std.proofs.Common.{◌≡◌, ◌⊎◌, ℕ, ◌+◌, ◌≤◌, subst, ◌∙◌}
 use Rattle.std.specs.Prelude.{IfOk, IfSome}
 use Rattle.raft_log_disk.proofs.RefusalLemmas.{no_more_then}
 use Rattle.raft_log_pipe.specs.Pipe.{first_of}
@@ -23,6 +23,7 @@ returns-in-Err g c =
       barrier = tt;
       gone = tt;
       count = tt;
+      held = tt;
       later = c.in-Err.ensures.later;
     }
 
@@ -46,5 +47,6 @@ returns g c =
       barrier = when_ok c.purge_append_files.result (subst (λ (n : ℕ). IfSome c.args.barrier (λ file. (first_of r.append ≡ n) ⊎ (first_of r.append ≤ file))) rewritten.kept.first went.barrier);
       gone = goes_then c.purge_append_files.result (traces_in c.must_rewrite_append_queue.new.log.traces) c.args.barrier p.append q.append r.append rewritten.kept.first went.gone;
       count = subst (λ (n : ℕ). IfOk c.purge_append_files.result (λ m. n + m ≡ first_of r.append)) rewritten.kept.first went.count;
+      held = when_ok c.purge_append_files.result (went.held ∙ rewritten.kept.rewrites);
       later = no_more_then rewritten.later went.later;
     }

@@ -1,4 +1,6 @@
 -- The append files go behind the rewrite queue written anew.
+use Rattle.std.proofs.Common.{◌∙◌}
+use Rattle.std.proofs.lemmas.Result.{on_ok_weaker}
 use Rattle.raft_log_disk.proofs.RefusalLemmas.{no_more_then}
 use Rattle.raft_log_cleaning.proofs.Behind.{barrier_both, cleans_both, counted_behind, keeps_both, purged_behind, stands_both}
 use Rattle.raft_log_cleaning.proofs.cleaning.purge_stale.Goals as goal
@@ -28,6 +30,7 @@ returns g c =
       stands = stands_both d e p q log mid one.cleans.ok one.both f r result two.stands;
       barrier = barrier_both result c.args.barrier p q r one.anew.append two.barrier;
       purged = purged_behind result d e f p q r log mid c.clean_all.new.log c.args.barrier one.cleans.ok one.anew one.append one.begins_again two.cleans two.gone;
+      replaced = on_ok_weaker result (λ held. held ∙ one.anew.rewrite) two.held;
       count = counted_behind result p q r one.append two.count;
       later = no_more_then one.later two.later;
     }

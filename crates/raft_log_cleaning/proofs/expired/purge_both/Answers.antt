@@ -6,6 +6,7 @@ use Rattle.raft_log_cleaner.specs.Told.{is_among}
 use Rattle.raft_log_traces.specs.GroupTraces.{traces_in}
 use Rattle.raft_log_cleaning.specs.Told.{is_named}
 use Rattle.std.proofs.Common.{sym, ◌∙◌}
+use Rattle.std.proofs.lemmas.Result.{on_ok_weaker}
 use Rattle.raft_log_cleaning.proofs.Behind.{all_there, barrier_both, cleaned_anew, cleans_both, gone_both, keeps_both, stands_both, there_before}
 use Rattle.raft_log_cleaning.proofs.expired.purge_both.Goals as goal
 
@@ -41,6 +42,7 @@ returns g c =
       rising = two.rising;
       there = all_there result log mid is_among same (two.there (λ group is. sym (same group) ∙ one.told.there group is));
       anew = cleaned_anew result d e f p q r log mid c.purge_appends.new.log c.args.manager.now c.purge_appends.new.manager.reports (is_named c.in_ok-many.many) one.cleans.ok one.anew one.append one.begins_again one.told two.cleans two.told;
+      replaced = on_ok_weaker result (λ held. held ∙ one.anew.rewrite) two.held;
       threshold = two.threshold;
       later = no_more_then one.later two.later;
     }

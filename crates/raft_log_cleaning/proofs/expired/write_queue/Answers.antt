@@ -6,7 +6,7 @@ use Rattle.raft_log_pipes.specs.declared.pipes.DualPipes.{DualPipes}
 use Rattle.raft_log_memtables.specs.Content.{Content}
 use Rattle.raft_log_traced.specs.declared.traced.TracedTables.{TracedTables}
 use Rattle.raft_log_cleaner.specs.Cleaning.{CanClean, IsLeftStanding, KeepsFromBarrier}
-use Rattle.raft_log_cleaner.specs.Pipes.{KeepBoth, KeepsPipes}
+use Rattle.raft_log_cleaner.specs.Pipes.{KeepBoth, KeepsAppends}
 use Rattle.raft_log_rewriter.specs.Standing.{CanRewrite}
 use Rattle.raft_log_rewriter.specs.Standing as rewriter
 use Rattle.raft_log_cleaning.specs.Extents.{HasOnlyNew}
@@ -20,15 +20,15 @@ still_cleaned : {X E : Type 0} (result : Result X E) (d : Disk) (p : DualPipes) 
 still_cleaned (Ok x) d p log content can = can.can
 still_cleaned (Err x) d p log content none = tt
 
-keeps_both : {X E : Type 0} (result : Result X E) (d e : Disk) (p q : DualPipes) → OnOk result (KeepsPipes d p e q) → OnOk result (KeepBoth d p e q)
+keeps_both : {X E : Type 0} (result : Result X E) (d e : Disk) (p q : DualPipes) → OnOk result (KeepsAppends d p e q) → OnOk result (KeepBoth d p e q)
 keeps_both (Ok x) d e p q kept = (kept.append, kept.rewrite)
 keeps_both (Err x) d e p q none = tt
 
-only_new : {X E : Type 0} (result : Result X E) (d e : Disk) (p q : DualPipes) → OnOk result (KeepsPipes d p e q) → OnOk result (first_of q.rewrite ≡ p.rewrite.active.seq + 1) → OnOk result (HasOnlyNew p q)
+only_new : {X E : Type 0} (result : Result X E) (d e : Disk) (p q : DualPipes) → OnOk result (KeepsAppends d p e q) → OnOk result (first_of q.rewrite ≡ p.rewrite.active.seq + 1) → OnOk result (HasOnlyNew p q)
 only_new (Ok x) d e p q kept gone = record { rewrite = gone; append = kept.first }
 only_new (Err x) d e p q none gone = tt
 
-from_any : {X E : Type 0} (result : Result X E) (d e : Disk) (p q : DualPipes) (barrier : Option ℕ) → OnOk result (KeepsPipes d p e q) → OnOk result (KeepsFromBarrier barrier p q)
+from_any : {X E : Type 0} (result : Result X E) (d e : Disk) (p q : DualPipes) (barrier : Option ℕ) → OnOk result (KeepsAppends d p e q) → OnOk result (KeepsFromBarrier barrier p q)
 from_any (Ok x) d e p q None kept = tt
 from_any (Ok x) d e p q (Some file) kept = inl kept.first
 from_any (Err x) d e p q barrier none = tt

@@ -1,6 +1,7 @@
 -- A file that is begun.
 use Rattle.std.proofs.Common.{[], ap}
 use Rattle.raft_log_pipe.specs.Pipe.{first_of}
+use Rattle.raft_log_pipe.proofs.FirstLemmas.{begun_first}
 use Rattle.raft_log_cleaner.proofs.Going.{none_ok, when_err}
 use Rattle.raft_log_cleaner.proofs.Keeping.{pipe_as_before, pipe_left, pipe_refused}
 use Rattle.raft_log_rewriter.proofs.Beginning.{file_begun, file_not_begun}
@@ -41,6 +42,7 @@ returns-clause-begins g c =
         append = pipe_as_before p.append q.append d e other;
         rewrite = record { set = c.in_ok-rotate.ensures.set.1; paths = call.paths; alone = call.alone };
         first = ap first_of other.same;
+        rewrites = begun_first p.rewrite q.rewrite call.next;
       };
       left = λ content can. tt;
     }

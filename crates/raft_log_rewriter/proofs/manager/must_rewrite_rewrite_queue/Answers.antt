@@ -3,7 +3,7 @@ use Rattle.std.proofs.Common.{ℕ, ◌+◌, List, sym, subst, ◌∙◌}
 use Rattle.raft_log_disk.proofs.RefusalLemmas.{no_more_then}
 use Rattle.raft_log_memtables.specs.Content.{Content}
 use Rattle.raft_log_cleaner.proofs.Going.{none_ok, when_err}
-use Rattle.raft_log_cleaner.proofs.Keeping.{ok_then, pipes_then, pipes_then_left}
+use Rattle.raft_log_cleaner.proofs.Keeping.{ok_appends, pipes_then, pipes_then_left}
 use Rattle.raft_log_rewriter.specs.Standing.{CanRewrite, HasRewritten}
 use Rattle.raft_log_cleaner.proofs.Stood.{refused_stands}
 use Rattle.raft_log_rewriter.proofs.Calls.{err_stands, ok_is}
@@ -84,7 +84,7 @@ returns g c =
       };
       gone = ok_is c.let_old_go.result _ c.in_ok-next.next (p.rewrite.active.seq + 1) c.in_ok-next.ensures.next c.let_old_go.ensures.gone;
       append = goes.append.same ∙ writes.append.same ∙ begins.append.same;
-      kept = ok_then c.let_old_go.result d f h p r t (pipes_then d e f p q r begins.kept writes.kept) goes.kept;
+      kept = ok_appends c.let_old_go.result d f h p r t (pipes_then d e f p q r begins.kept writes.kept) goes.kept;
       left = err_stands c.let_old_go.result d f h p r t c.args.log.now (pipes_then d e f p q r begins.kept writes.kept) (λ content can. goes.left content (all content can));
       later = no_more_then (no_more_then c.in_ok-next.ensures.later c.in_ok-rewrite_groups.ensures.later) c.let_old_go.ensures.later;
     }

@@ -1,6 +1,7 @@
 -- A sync of the rewrite queue.
 use Rattle.std.proofs.Common.{[], ◌++◌, sym, ◌∙◌, ap}
 use Rattle.raft_log_pipe.specs.Pipe.{first_of}
+use Rattle.raft_log_pipe.proofs.FirstLemmas.{same_first}
 use Rattle.raft_log_cleaner.proofs.Going.{none_ok, when_err}
 use Rattle.raft_log_cleaner.proofs.Keeping.{pipe_as_before, pipe_left, pipe_on}
 use Rattle.raft_log_rewriter.proofs.Recording as recording
@@ -43,6 +44,7 @@ returns-clause-syncs g c =
         append = pipe_as_before p.append q.append d e other;
         rewrite = pipe_on p.rewrite q.rewrite d e (call.same.0, call.same.1, q.rewrites ∙ sym p.rewrites) c.in_ok-sync.ensures.set.1 call.paths call.names;
         first = ap first_of other.same;
+        rewrites = same_first p.rewrite q.rewrite call.same;
       };
       left = λ next ws content s. tt;
     }

@@ -1,6 +1,7 @@
 -- Files that no group needs.
-use Rattle.std.proofs.Common.{◌≡◌, ℕ, ◌+◌, sym, ◌∙◌}
+use Rattle.std.proofs.Common.{◌≡◌, ℕ, ◌+◌, ap, sym, ◌∙◌}
 use Rattle.std.specs.Prelude.{Result, Ok, Err, IfOk}
+use Rattle.raft_log_pipe.specs.Pipe.{first_of}
 use Rattle.raft_log_cleaner.proofs.Going.{when_err, when_ok}
 use Rattle.raft_log_cleaner.proofs.Gone.{counted, files_gone, none_from, rest_leaves}
 use Rattle.raft_log_cleaner.proofs.Keeping.{pipe_as_before}
@@ -34,6 +35,9 @@ returns-clause-count g c = counted c.let_go.result c.let_go.ensures.call.0 c.arg
 pub returns-clause-kept : goal.returns-clause-kept
 returns-clause-kept g c =
     pipe_as_before c.args.pipes.now.rewrite c.let_go.new.pipes.rewrite (g.F.FileSystem.disk c.args.files.now) (g.F.FileSystem.disk c.let_go.new.files) c.let_go.ensures.other
+
+pub returns-clause-held : goal.returns-clause-held
+returns-clause-held g c = ap first_of c.let_go.ensures.other.same
 
 pub returns-clause-both : goal.returns-clause-both
 returns-clause-both g c =
