@@ -102,4 +102,4 @@ still_stands old p new d items h stands queue active s u holds =
 
 -- settings that two calls keep
 pub set_then : (p q r : DualPipes) → KeepSettings p q → KeepSettings q r → KeepSettings p r
-set_then p q r first second = ((second.0.0 ∙ first.0.0, second.0.1 ∙ first.0.1), (second.1.0 ∙ first.1.0, second.1.1 ∙ first.1.1))
+set_then p q r first second = ((second.0.0 ∙ first.0.0, second.0.1 ∙ first.0.1, second.0.2 ∙ first.0.2), (second.1.0 ∙ first.1.0, second.1.1 ∙ first.1.1, second.1.2 ∙ first.1.2))

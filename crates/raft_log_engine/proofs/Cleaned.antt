@@ -16,6 +16,7 @@ use Rattle.raft_log_files.specs.declared.error.Error.{Error}
 use Rattle.raft_log_file.specs.Laws.{Batch}
 use Rattle.raft_log_pipe.specs.declared.pipe.SinglePipe.{SinglePipe}
 use Rattle.raft_log_pipe.specs.Pipe.{Holds, Numbered, first_of}
+use Rattle.raft_log_pipe.proofs.FirstLemmas.{same_first}
 use Rattle.raft_log_pipes.specs.declared.pipes.DualPipes.{DualPipes}
 use Rattle.raft_log_memtables.specs.Content.{Content}
 use Rattle.raft_log_memtables.specs.MemTables.{content_in}
@@ -236,9 +237,6 @@ both_stand d e p q kept alone = record {
   rewrite = kept.1.alone alone.rewrite;
 }
 
-pub same_first : (p q : SinglePipe) → (q.active ≡ p.active) × (q.older ≡ p.older) → first_of q ≡ first_of p
-same_first p q same i = (same.0 i).seq - length (same.1 i).items
-
 -- its files are as large
 same_queue : (p q : SinglePipe) → (q.active ≡ p.active) × (q.older ≡ p.older) → q.target_file_size ≡ p.target_file_size → queue_of q ≡ queue_of p
 same_queue p q same target i = record {
@@ -264,7 +262,7 @@ pub set_then : (p q r : DualPipes) → KeepSettings p q → KeepSettings q r →
 set_then p q r one two = (settings_then p.append q.append r.append one.0 two.0, settings_then p.rewrite q.rewrite r.rewrite one.1 two.1)
   where
     settings_then : (a b c : SinglePipe) → KeepsSettings a b → KeepsSettings b c → KeepsSettings a c
-    settings_then a b c one two = (two.0 ∙ one.0, two.1 ∙ one.1)
+    settings_then a b c one two = (two.0 ∙ one.0, two.1 ∙ one.1, two.2 ∙ one.2)
 
 -- ---- what a crash leaves, by accounts
 

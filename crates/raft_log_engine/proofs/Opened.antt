@@ -17,6 +17,7 @@ use Rattle.raft_log_pipe.specs.declared.file.File.{File}
 use Rattle.raft_log_pipe.specs.declared.pipe.SinglePipe.{SinglePipe}
 use Rattle.raft_log_pipe.specs.Blocks.{files_of}
 use Rattle.raft_log_pipe.specs.Pipe.{Numbered, numbered}
+use Rattle.raft_log_pipe.specs.Unreserved.{KeepsUnreserved}
 use Rattle.raft_log_pipes.specs.declared.pipes.DualPipes.{DualPipes}
 use Rattle.raft_log_pipes.specs.Pipes.{ArePipes}
 use Rattle.raft_log_memtables.specs.declared.memtables.MemTables.{MemTables}
@@ -32,10 +33,11 @@ use Rattle.raft_log_recovery.specs.declared.scan.FileKind.TheVariants.{Log}
 use Rattle.raft_log_recovery.specs.declared.builder.DualPipesBuilder.{DualPipesBuilder}
 use Rattle.raft_log_recovery.specs.Scan.{AreFound, OnlyMakes}
 use Rattle.raft_log_recovery.specs.Again.{FindsSound}
-use Rattle.raft_log_recovery.specs.Both.{ArePipesWith, CantBeOpened, IsFoundBy, LeavesBoth, LeavesQueue}
+use Rattle.raft_log_recovery.specs.Both.{ArePipesWith, CantBeOpened, ChangesBoth, IsFoundBy, LeavesBoth, LeavesQueue}
 use Rattle.raft_log_recovery.specs.Queue.{AnyRefused, AreOpen, directories_in, names_in}
 use Rattle.raft_log_recovery.specs.Opening.{AreAllGot, AreGot, IsGot, IsPipeWith, batches_of, said_in}
 use Rattle.raft_log_recovery.specs.Replay.{Placed}
+use Rattle.raft_log_pipe.proofs.UnreservedLemmas.{same_unreserved}
 use Rattle.raft_log_replay.specs.Batches.{content_over, records_in}
 use Rattle.raft_log_engine.specs.Opening.{AreFoundIn, IsFoundAgain, IsRecoveredAs, LeavesFound}
 use Rattle.raft_log_blocks.specs.Held.{IsTabled, LiesIn}
@@ -158,27 +160,40 @@ module _ (b : DualPipesBuilder) (mode : RecoveryMode) (said : List Text) (at : d
       subst (λ (m : RecoveryMode). LeavesQueue m said queue (names_in b queue) made new) alike
       (subst (λ (x : List Text). LeavesQueue b.config.recovery_mode x queue (names_in b queue) made new) at leaves)
 
-  -- what an opening leaves, refused or not
-  pub both_left : (new : Disk) → IsFoundBy b Append made → IsFoundBy b Rewrite made → LeavesBoth b.config.recovery_mode b made new → LeavesFound mode said d new
-  both_left new append rewrite leaves = record {
+  -- what an opening leaves, refused or not, with other reserved files behind it
+  pub left_then : (mid new : Disk) → IsFoundBy b Append made → IsFoundBy b Rewrite made → ChangesBoth made mid → KeepsUnreserved mid new
+      → ((queue : LogQueue) → LeavesQueue b.config.recovery_mode (directories_in b) queue (names_in b queue) made new) → LeavesFound mode said d new
+  left_then mid new append rewrite only unreserved leaves = record {
     made = made;
     rewrites = names_in b Rewrite;
     appends = names_in b Append;
     found = found_in append rewrite;
-    rewrite = said_leaves Rewrite new leaves.rewrite;
-    append = said_leaves Append new leaves.append;
-    only = leaves.only;
+    rewrite = said_leaves Rewrite new (leaves Rewrite);
+    append = said_leaves Append new (leaves Append);
+    between = mid;
+    only = only;
+    unreserved = unreserved;
   }
 
+  pub leaves_each : (new : Disk) → LeavesBoth b.config.recovery_mode b made new → (queue : LogQueue) → LeavesQueue b.config.recovery_mode (directories_in b) queue (names_in b queue) made new
+  leaves_each new leaves Append = leaves.append
+  leaves_each new leaves Rewrite = leaves.rewrite
+
+  pub both_left : (new : Disk) → IsFoundBy b Append made → IsFoundBy b Rewrite made → LeavesBoth b.config.recovery_mode b made new → LeavesFound mode said d new
+  both_left new append rewrite leaves = left_then new new append rewrite leaves.only (same_unreserved new new refl) (leaves_each new leaves)
+
   -- and what another one finds then
-  pub both_again : (new : Disk) → LeavesBoth b.config.recovery_mode b made new → IsFoundAgain mode said d new
-  both_again new leaves content is = record {
+  pub again_then : (new : Disk) → ((queue : LogQueue) → LeavesQueue b.config.recovery_mode (directories_in b) queue (names_in b queue) made new) → IsFoundAgain mode said d new
+  again_then new leaves content is = record {
     rewrites = is.rewrites;
     appends = is.appends;
-    rewrite = made_sound mode said Rewrite d made is.rewrites makes ((said_leaves Rewrite new leaves.rewrite).again is.rewrites is.rewrite);
-    append = made_sound mode said Append d made is.appends makes ((said_leaves Append new leaves.append).again is.appends is.append);
+    rewrite = made_sound mode said Rewrite d made is.rewrites makes ((said_leaves Rewrite new (leaves Rewrite)).again is.rewrites is.rewrite);
+    append = made_sound mode said Append d made is.appends makes ((said_leaves Append new (leaves Append)).again is.appends is.append);
     is = is.is;
   }
+
+  pub both_again : (new : Disk) → LeavesBoth b.config.recovery_mode b made new → IsFoundAgain mode said d new
+  both_again new leaves = again_then new (leaves_each new leaves)
 
   passed : (queue : LogQueue) → (CantBeOpened b.config.recovery_mode b queue made → ⊥) → AnyRefused mode said queue (names_in b queue) made → ⊥
   passed queue none any =

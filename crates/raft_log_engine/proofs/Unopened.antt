@@ -1,6 +1,6 @@
 -- Why an opening is refused: errors and their causes.
-use Rattle.std.proofs.Common.{◌≡◌, inl, inr, ℕ, zero, suc, ◌<◌, true, cond, List, [], ◌∷◌, ◌++◌, length, Option, Some, None, refl, sym, ap, subst, ◌∙◌, arith}
-use Rattle.std.specs.Prelude.{Result, Ok, Err, IfErr, IsOk, MatchOption, is_some}
+use Rattle.std.proofs.Common.{◌≡◌, ◌⊎◌, inl, inr, ℕ, zero, suc, ◌+◌, ◌-◌, ◌^◌, ◌<◌, ◌≤◌, true, cond, List, [], ◌∷◌, ◌++◌, length, Option, Some, None, refl, sym, ap, subst, ◌∙◌, arith}
+use Rattle.std.specs.Prelude.{◌/◌, ◌*◌, min, Bool, false, ◌&&◌, ◌==◌, unwrap_or, Result, Ok, Err, IfErr, IsOk, MatchOption, is_some}
 use Rattle.std.proofs.lemmas.Bool.{false≢true}
 use Rattle.raft_log_records.specs.declared.file_id.LogQueue.{LogQueue}
 use Rattle.raft_log_records.specs.declared.file_id.LogQueue.TheVariants.{Append, Rewrite}
@@ -8,7 +8,10 @@ use Rattle.raft_log_disk.specs.Cause.{Meter, NothingRefuses, RefusesNoMore}
 use Rattle.raft_log_disk.specs.Disk.{Disk, HasDirectory, IsIn}
 use Rattle.raft_log_disk.specs.Text.{Text, name_in}
 use Rattle.raft_log_disk.proofs.TextLemmas.{in_directory}
+use Rattle.raft_log_disk.proofs.RefusalLemmas.{still_free}
 use Rattle.raft_log_files.specs.FileName.{IsFileSeq, log_file_name}
+use Rattle.raft_log_files.specs.Settings.{Settings, file_capacity, prefill_capacity_of, recycles}
+use Rattle.raft_log_files.specs.Size.{size_of}
 use Rattle.raft_log_files.specs.declared.error.CorruptionFault.{CorruptionFault}
 use Rattle.raft_log_files.specs.declared.error.DiskRefusal.TheVariants.{Refused}
 use Rattle.raft_log_files.specs.declared.error.Error.{Error}
@@ -17,19 +20,22 @@ use Rattle.raft_log_files.specs.declared.error.OtherFault.{OtherFault}
 use Rattle.raft_log_files.specs.declared.error.OtherFault.TheVariants as other
 use Rattle.raft_log_files.specs.declared.recovery.RecoveryMode.{RecoveryMode}
 use Rattle.raft_log_pipe.specs.Alone.{path_in}
-use Rattle.raft_log_pipe.specs.Caused.{LacksDirectory}
+use Rattle.raft_log_pipe.specs.Caused.{IsRefusalOrMemory, LacksDirectory}
+use Rattle.raft_log_pipe.specs.declared.pipe.SinglePipe.{SinglePipe}
+use Rattle.raft_log_pipe.specs.Prepared.{IsPreparedOf, LacksNumbers}
+use Rattle.raft_log_pipe.specs.Taken.{IsTakenBy}
 use Rattle.raft_log_pipe.specs.Pipe.{id_of}
 use Rattle.raft_log_recovery.specs.declared.builder.DualPipesBuilder.{DualPipesBuilder}
 use Rattle.raft_log_recovery.specs.declared.scan.FileKind.TheVariants as kind
 use Rattle.raft_log_recovery.specs.declared.scan.FileName.{FileName}
-use Rattle.raft_log_recovery.specs.Both.{IsEitherFault, IsFoundBy}
+use Rattle.raft_log_recovery.specs.Both.{IsEitherFault, IsFoundBy, wanted_of}
 use Rattle.raft_log_recovery.specs.Caused.{IsQueueFault}
 use Rattle.raft_log_recovery.specs.Queue.{directories_in, names_in}
 use Rattle.raft_log_recovery.specs.Scan.{AllMade, AreFound, IsMadeUnless, IsScanFault, OnlyMakes}
 use Rattle.raft_log_recovery.proofs.CausedLemmas.{fault_then, none_unreadable}
 use Rattle.raft_log_recovery.proofs.FoundLemmas.{name_slash}
 use Rattle.raft_log_engine.specs.Opening.{CantBeOpened}
-use Rattle.raft_log_engine.specs.Unopened.{AreCallsRefused, IsFirstUnmade, IsOpeningFault, IsQueueRefused, IsUnopenable}
+use Rattle.raft_log_engine.specs.Unopened.{AreCallsRefused, IsFirstUnmade, IsOpeningFault, IsQueueRefused, IsUnopenable, LacksForReserved}
 use Rattle.raft_log_engine.proofs.Corrupt.{refused}
 use Rattle.raft_log_engine.specs.declared.fault.EngineFault.{EngineFault}
 use Rattle.raft_log_engine.specs.declared.fault.EngineFault.TheVariants as fault
@@ -66,7 +72,7 @@ module _ (mode : RecoveryMode) (said : List Text) (d left : Disk) (bounded : Typ
   scan_cause e (inl is) free = subst (λ (x : Error). IsErrorFor None x) (sym is) tt
   scan_cause e (inr (inl (is, file))) free = subst (λ (x : Error). IsErrorFor None x) (sym is) (inr (refl, file))
   scan_cause e (inr (inr (is, counted))) free =
-      subst (λ (x : Error). IsErrorFor None x) (sym is) (inl (omega (arith, counted), λ none. never (subst (λ (x : Error). IsMadeUnless x) is (free none))))
+      subst (λ (x : Error). IsErrorFor None x) (sym is) (inl (omega (arith, counted), λ none. absurd (never (subst (λ (x : Error). IsMadeUnless x) is (free none)))))
     where
       never : IsMadeUnless (Io Refused) → ⊥
       never (inl same) = absurd cc
@@ -109,6 +115,28 @@ module _ (mode : RecoveryMode) (said : List Text) (d left : Disk) (bounded : Typ
       by_queue Append = append
       by_queue Rewrite = rewrite
 
+  -- the making and deleting of reserved files
+  module _ (mid : Disk) (wanted kept : ℕ) (free_then : Type 0) (between : Meter) (few : wanted < 2 ^ 32) (on : mid.next ≤ left.next) (before : RefusesNoMore bounded free_then old between) where
+    pub reserved_cause : (e : Error) → IsRefusalOrMemory between new e → (NothingRefuses free_then between → IsTakenBy {T = Unit {0}} ⊥ ⊥ (LacksNumbers mid (wanted - kept)) (Err e)) → IsErrorFor None e
+    reserved_cause Memory why taken = tt
+    reserved_cause (Io i) why taken = inl (omega (arith, before.counts, why), λ none. lacks (taken (still_free none before)))
+      where
+        lacks : 2 ^ 64 ≤ mid.next + (wanted - kept) → 2 ^ 64 ≤ left.next + (2 ^ 32 - 1)
+        lacks none = omega (arith, none, few, on)
+    reserved_cause (Corruption f) why taken = absurd why
+    reserved_cause TryAgain why taken = absurd why
+    reserved_cause (Other other.NoFileNumber) why taken = absurd why
+    reserved_cause (Other other.FileGone) why taken = absurd why
+    reserved_cause (Other other.PurgeBelowTarget) why taken = absurd why
+    reserved_cause (Other other.RecycleUnderVersion1) why taken = absurd why
+    reserved_cause (Other other.PrefillWithoutRecycle) why taken = absurd why
+    reserved_cause (Other other.NoTargetSize) why taken = absurd why
+    reserved_cause (Other other.NotADirectory) why taken = absurd why
+    reserved_cause (Other other.NumberOutOfSpan) why taken = absurd why
+    reserved_cause (InvalidArgument i) why taken = absurd why
+    reserved_cause EntryCompacted why taken = absurd why
+    reserved_cause EntryNotFound why taken = absurd why
+
   -- a fault of settings comes beside
   for_error : (unsound : Option OtherFault) (e : Error) → IsErrorFor None e → IsErrorFor unsound e
   for_error unsound Memory why = tt
@@ -134,9 +162,9 @@ module _ (mode : RecoveryMode) (said : List Text) (d left : Disk) (bounded : Typ
   free_queue : NothingRefuses bounded old → (queue : LogQueue) → IsQueueRefused said d left bounded old new queue → IsFirstUnmade said d left queue
   free_queue free queue why = record { made = why.made; names = why.names; makes = why.makes; found = why.found; barred = elim why.refused [ inl called ↦ called.1 free | inr unread ↦ absurd (none_unreadable bounded said queue why.names old free unread) ] }
 
-  free_calls : NothingRefuses bounded old → AreCallsRefused said d left bounded old new → (queue : LogQueue) × IsFirstUnmade said d left queue
-  free_calls free (inl called) = absurd (called.1 free)
-  free_calls free (inr (queue, why)) = (queue, free_queue free queue why)
+  free_calls : NothingRefuses bounded old → AreCallsRefused said d left bounded old new → LacksForReserved left ⊎ ((queue : LogQueue) × IsFirstUnmade said d left queue)
+  free_calls free (inl called) = inl (called.1 free)
+  free_calls free (inr (queue, why)) = inr (queue, free_queue free queue why)
 
   free_error : (unsound : Option OtherFault) → NothingRefuses bounded old → (e : Error) → IsErrorFor unsound e → IsUnopenable unsound mode said d left (fault.Log e)
   free_error unsound free Memory why = tt
@@ -167,3 +195,26 @@ unsound_cause T mode said d bounded m None e told = absurd (false≢true told)
 unsound_cause T mode said d bounded m (Some f) e told =
     let same : e ≡ Other f = cc in
     subst (λ (x : Error). IsOpeningFault (Some f) mode said d d bounded m m (fault.Log x)) (sym same) (inl refl)
+
+-- ---- how many reserved files an opening wants
+
+few_files : (is_none : Bool) (n : ℕ) → cond is_none 0 (min n (2 ^ 32 - 1)) < 2 ^ 32
+few_files true n = omega arith
+few_files false n = omega arith
+
+few_made : (is_set : Bool) (n : ℕ) → n < 2 ^ 32 → cond is_set n 0 < 2 ^ 32
+few_made true n few = few
+few_made false n few = omega arith
+
+pub few_wanted : (settings : Settings) (count : ℕ) → wanted_of settings count < 2 ^ 32
+few_wanted settings count =
+    let limit : ℕ = (unwrap_or settings.prefill_limit (size_of 0)).0 in
+    let target : ℕ = settings.target_file_size.0 in
+    let made : prefill_capacity_of settings < 2 ^ 32 = few_made (recycles settings && settings.prefill_for_recycle) (file_capacity limit target) (few_files (target == 0) (limit / target * 3 / 2)) in
+    omega (arith, made)
+
+-- what a preparation tells of its refusals it tells of those since an earlier moment
+pub prepared_since : {a b : Type 0} (p : SinglePipe) (d : Disk) (wanted : ℕ) (first between last : Meter) → RefusesNoMore a b first between → IsPreparedOf p d wanted between last → IsPreparedOf p d wanted first last
+prepared_since p d wanted first between last before (inl all) = inl all
+prepared_since p d wanted first between last before (inr (inl obstructed)) = inr (inl obstructed)
+prepared_since p d wanted first between last before (inr (inr (none, rises))) = inr (inr (none, omega (arith, before.counts, rises)))

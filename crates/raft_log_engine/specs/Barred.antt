@@ -14,3 +14,7 @@ IsBarred All e = e.has_marked ≡ true
 IsBarred (Expired due) e = (e.has_marked ≡ true) ⊎ ((due.rewrites ≡ true) × (e.is_parted ≡ true))
 IsBarred Rewrites e = HasFoundAny e
 IsBarred Stale e = HasFoundAny e
+
+-- what an opening found of atomic groups is known as before
+abbrev pub KeepsFound : {F : Type 0} → Parts F → Parts F → Type 0
+KeepsFound old new = (new.has_marked ≡ old.has_marked) × (new.is_parted ≡ old.is_parted)

@@ -1,7 +1,8 @@
 -- What an engine is opened with: the batches that the files of both queues read as.
-use Rattle.std.specs.Prelude.{◌≡◌, ◌⊎◌, ℕ, List, ◌++◌}
+use Rattle.std.specs.Prelude.{◌≡◌, ◌⊎◌, ℕ, ◌≤◌, List, ◌++◌, length}
 use Rattle.raft_log_records.specs.declared.file_id.LogQueue.{LogQueue}
 use Rattle.raft_log_records.specs.declared.file_id.LogQueue.TheVariants.{Append, Rewrite}
+use Rattle.raft_log_disk.specs.Cause.{Meter}
 use Rattle.raft_log_disk.specs.Text.{Text}
 use Rattle.raft_log_disk.specs.Disk.{Disk}
 use Rattle.raft_log_files.specs.Settings.{Settings}
@@ -9,6 +10,8 @@ use Rattle.raft_log_files.specs.declared.recovery.RecoveryMode.{RecoveryMode}
 use Rattle.raft_log_files.specs.declared.recovery.RecoveryMode.TheVariants.{TolerateAnyCorruption}
 use Rattle.raft_log_pipe.specs.declared.pipe.SinglePipe.{SinglePipe}
 use Rattle.raft_log_pipe.specs.Pipe.{Numbered}
+use Rattle.raft_log_pipe.specs.Prepared.{IsPreparedOf}
+use Rattle.raft_log_pipe.specs.Unreserved.{KeepsUnreserved}
 use Rattle.raft_log_pipes.specs.declared.pipes.DualPipes.{DualPipes}
 use Rattle.raft_log_pipes.specs.Pipes.{pipe_of}
 use Rattle.raft_log_traced.specs.declared.traced.TracedTables.{TracedTables}
@@ -16,7 +19,7 @@ use Rattle.raft_log_memtables.specs.Content.{Content}
 use Rattle.raft_log_recovery.specs.declared.scan.FileKind.TheVariants.{Log}
 use Rattle.raft_log_recovery.specs.declared.scan.FileName.{FileName}
 use Rattle.raft_log_recovery.specs.Again.{FindsSound}
-use Rattle.raft_log_recovery.specs.Both.{ChangesBoth, LeavesQueue}
+use Rattle.raft_log_recovery.specs.Both.{ChangesBoth, LeavesQueue, wanted_of}
 use Rattle.raft_log_recovery.specs.Crashed.{HasHole}
 use Rattle.raft_log_recovery.specs.Opening.{AnyAligned}
 use Rattle.raft_log_recovery.specs.Queue.{AnyRefused}
@@ -44,7 +47,7 @@ pub record AreFoundIn (directories : List Text) (d made : Disk) (rewrites append
   pub append : AreFound made (Log Append) directories appends
 
 -- files were found, and each queue is left so that the next opening finds what this one did, also after a crash where its files
--- were at rest. No other file changed
+-- were at rest. Then reserved files alone were made or deleted, and no other file changed
 pub record LeavesFound (mode : RecoveryMode) (directories : List Text) (d new : Disk) : Type 0 where
   pub made : Disk
   pub rewrites : List FileName
@@ -52,7 +55,9 @@ pub record LeavesFound (mode : RecoveryMode) (directories : List Text) (d new : 
   pub found : AreFoundIn directories d made rewrites appends
   pub rewrite : LeavesQueue mode directories Rewrite rewrites made new
   pub append : LeavesQueue mode directories Append appends made new
-  pub only : ChangesBoth made new
+  pub between : Disk
+  pub only : ChangesBoth made between
+  pub unreserved : KeepsUnreserved between new
 
 -- nothing changed but that directories are made; or so
 abbrev pub IsLeftByOpening : RecoveryMode → List Text → Disk → Disk → Type 0
@@ -74,6 +79,16 @@ IsSetAs settings p = (p.target_file_size ≡ settings.target_file_size.0) × (p.
 -- so do both
 abbrev pub AreSetAs : Settings → DualPipes → Type 0
 AreSetAs settings p = IsSetAs settings p.append × IsSetAs settings p.rewrite
+
+-- Append files are found once the directories are there, and the append queue keeps no more reserved files than the settings want
+-- beside so many: as many, unless the next one can't be made, or a call was refused, as for want of space, and there are none
+pub record KeepsWanted (settings : Settings) (directories : List Text) (d new : Disk) (old now : Meter) (p : DualPipes) : Type 0 where
+  pub made : Disk
+  pub appends : List FileName
+  pub makes : OnlyMakes directories d made
+  pub found : AreFound made (Log Append) directories appends
+  pub few : length p.append.reserved.items ≤ wanted_of settings (length appends)
+  pub prepared : IsPreparedOf p.append new (wanted_of settings (length appends)) old now
 
 -- a pipe has a hole only where the mode cuts any fault away
 abbrev pub HasHolesIn : RecoveryMode → Disk → DualPipes → Type 0

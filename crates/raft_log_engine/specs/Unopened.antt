@@ -1,5 +1,5 @@
 -- Why an opening is refused: each error comes only for its cause.
-use Rattle.std.specs.Prelude.{◌≡◌, ◌⊎◌, List, Option, Some}
+use Rattle.std.specs.Prelude.{◌≡◌, ◌⊎◌, ◌-◌, ◌^◌, List, Option, Some}
 use Rattle.raft_log_records.specs.declared.file_id.LogQueue.{LogQueue}
 use Rattle.raft_log_disk.specs.Text.{Text}
 use Rattle.raft_log_disk.specs.Disk.{Disk}
@@ -9,6 +9,7 @@ use Rattle.raft_log_files.specs.declared.error.Error.TheVariants.{Io, Corruption
 use Rattle.raft_log_files.specs.declared.error.OtherFault.{OtherFault}
 use Rattle.raft_log_files.specs.declared.error.OtherFault.TheVariants.{NotADirectory}
 use Rattle.raft_log_files.specs.declared.recovery.RecoveryMode.{RecoveryMode}
+use Rattle.raft_log_pipe.specs.Prepared.{LacksNumbers}
 use Rattle.raft_log_recovery.specs.declared.scan.FileKind.TheVariants.{Log}
 use Rattle.raft_log_recovery.specs.declared.scan.FileName.{FileName}
 use Rattle.raft_log_recovery.specs.Caused.{AnyUnreadable, IsFirstBarred, IsRefusal}
@@ -27,10 +28,15 @@ pub record IsQueueRefused (directories : List Text) (d left : Disk) (bounded : T
   pub found : AreFound made (Log queue) directories names
   pub refused : IsRefusal bounded (IsFirstBarred directories queue names left) old new ⊎ AnyUnreadable directories queue names old
 
--- it refused to make a directory, or so of either queue
+-- no numbers are left for as many reserved files as an opening may make: settings want fewer than 2^32
+abbrev pub LacksForReserved : Disk → Type 0
+LacksForReserved left = LacksNumbers left (2 ^ 32 - 1)
+
+-- It refused to make a directory, or to make or delete a reserved file, or so of either queue. Where nothing is set to refuse that
+-- was a reserved file without a number
 abbrev pub AreCallsRefused : List Text → Disk → Disk → (bounded : Type 0) → Meter → Meter → Type 0
 AreCallsRefused directories d left bounded old new =
-    IsRefusal bounded ⊥ old new ⊎ ((queue : LogQueue) × IsQueueRefused directories d left bounded old new queue)
+    IsRefusal bounded (LacksForReserved left) old new ⊎ ((queue : LogQueue) × IsQueueRefused directories d left bounded old new queue)
 
 -- the settings have this fault, or a directory's path is a file
 abbrev pub IsSetUpFault : Option OtherFault → List Text → Disk → OtherFault → Type 0
@@ -69,5 +75,5 @@ pub record IsFirstUnmade (directories : List Text) (d left : Disk) (queue : LogQ
 abbrev pub IsUnopenable : Option OtherFault → RecoveryMode → List Text → Disk → Disk → EngineFault → Type 0
 IsUnopenable unsound mode directories d left fault =
     IsCausedBy ⊥ ⊥ ⊥
-    (IsOpeningError ((queue : LogQueue) × IsFirstUnmade directories d left queue) ((queue : LogQueue) × CantBeOpened mode directories queue d)
+    (IsOpeningError (LacksForReserved left ⊎ ((queue : LogQueue) × IsFirstUnmade directories d left queue)) ((queue : LogQueue) × CantBeOpened mode directories queue d)
     (IsSetUpFault unsound directories d)) fault

@@ -2,6 +2,7 @@
 ghost use Rattle.std.specs.Prelude.{◌≡◌, ◌≤◌, ◌+◌, ◌++◌, ℕ, List, [], true, false, Err, IfErr, IfOk, OnOk, OnErr, length, option_map};
 ghost use Rattle.raft_content_log.specs.Leaving.{AgreesElsewhere, IsWritten, LeavesElsewhere, LeavesNoMore, MayBeWritten};
 ghost use Rattle.raft_log_disk.specs.Cause.{NothingRefuses, RefusesNoMore};
+ghost use Rattle.raft_log_engine.specs.Barred.{KeepsFound};
 ghost use Rattle.raft_log_engine.specs.Caused.{IsFetchFault, IsSyncFault, IsWriteFault};
 ghost use Rattle.raft_log_engine.specs.Left.{IsSound, answers_on, leaves_on};
 ghost use Rattle.raft_log_engine.specs.Reads.{HasRead, IsStopped, IsTableFault};
@@ -17,21 +18,12 @@ ghost use Rattle.raft_log_pipes.specs.Kept.{KeepSettings};
 ghost use Rattle.raft_log_records.specs.Batch.{nothing_logged, payloads};
 ghost use Rattle.raft_log_records.specs.Spelling.{record_len};
 
-use crate::appending::append_batch;
 use crate::blocks::{copies_of, fault_of};
 use crate::engine::Engine;
 use crate::fault::EngineFault;
-use crate::writing::{apply, prepare};
 use raft_log_files::FileSystem;
+use raft_log_purge::PurgeHook;
 use raft_log_records::{LogBatch, LogQueue};
-
-/// Whether a write wasn't synced, with one more write.
-fn skips_sync(before: bool, sync: bool) -> bool
-    ensures synced { sync ≡ true → result ≡ before }
-    ensures none { result ≡ false → (sync ≡ true) × (before ≡ false) }
-{
-    before || !sync
-}
 
 impl<F: FileSystem + Drop> Engine<F> {
     /// Writes a batch (raft-engine's `write`), and syncs it where that is asked for. Before anything
@@ -62,6 +54,7 @@ impl<F: FileSystem + Drop> Engine<F> {
             → OpensAsFront (directories_of_engine self.new) (F.disk self.new.files) before (batches ++ written_batch batch.old.items) }
         ensures all_written { OnOk result (sync ≡ true → HasWritten F.disk self.new (answers_on F.disk self.new) []) }
         ensures emptied { OnOk result (batch.new ≡ nothing_logged) }
+        ensures marks { KeepsFound self.old self.new }
         ensures stopped { self.old.is_stopped ≡ true → result ≡ Err Stopped }
         ensures others { sync ≡ true → LeavesElsewhere batch.old.items (leaves_on F.disk self.old) (leaves_on F.disk self.new) }
         ensures others_answered { IsSound self.new → IsSound self.old × AgreesElsewhere batch.old.items (answers_on F.disk self.new) (answers_on F.disk self.old) }
@@ -71,33 +64,8 @@ impl<F: FileSystem + Drop> Engine<F> {
         ensures taken { NothingRefuses (F.is_bounded self.old.files) (F.meter self.old.files) → IsWriteTaken F.disk self.old batch.old.items result }
         ensures cause { IfErr result (λ fault. IsWriteFault F.disk self.old batch.old.items (F.meter self.old.files) (F.meter self.new.files) fault) }
     {
-        if self.is_stopped {
-            return Err(EngineFault::Stopped);
-        }
-        if batch.is_empty() {
-            let _ = batch.drain();
-            if sync {
-                self.sync()?;
-                return Ok(0);
-            }
-            return Ok(0);
-        }
-        let len = prepare(&self.traced.tables, batch)?;
-        let block = batch.entries_block();
-        let written = match append_batch(&mut self.files, &mut self.pipes, batch, sync) {
-            Ok(written) => written,
-            Err(error) => {
-                self.is_stopped = true;
-                return Err(EngineFault::Log(error));
-            }
-        };
-        let items = batch.drain();
-        if let Err(fault) = apply(&mut self.traced, items, block, written) {
-            self.is_stopped = true;
-            return Err(fault);
-        }
-        self.wrote_unsynced = skips_sync(self.wrote_unsynced, sync);
-        Ok(len)
+        let mut none: [PurgeHook; 0] = [];
+        self.write_with(batch, sync, &mut none)
     }
 
     /// Brings what was written onto the disk (raft-engine's `sync`): the append queue is synced, also
@@ -123,6 +91,7 @@ impl<F: FileSystem + Drop> Engine<F> {
         ensures tail_still { (before : Content (List ℕ)) (batches : List Batch) → StandsAlone F.disk self.old → HasWritten F.disk self.old before batches
             → OpensInTail (directories_of_engine self.new) (F.disk self.new.files) self.new.pipes }
         ensures flag { self.new.wrote_unsynced ≡ self.old.wrote_unsynced }
+        ensures marks { KeepsFound self.old self.new }
         ensures stopped { self.old.is_stopped ≡ true → result ≡ Err Stopped }
         ensures later { RefusesNoMore (F.is_bounded self.old.files) (F.is_bounded self.new.files) (F.meter self.old.files) (F.meter self.new.files) }
         ensures taken { NothingRefuses (F.is_bounded self.old.files) (F.meter self.old.files) → IsSyncTaken self.old result }

@@ -4,8 +4,9 @@ ghost use Rattle.std.specs.Ordering.{nat_cmp};
 ghost use Rattle.std.specs.Prelude.{◌≡◌, ◌⊎◌, ◌+◌, ℕ, List, [], ◌++◌, true, false, Err, IfErr, IfOk, IsOk, IsOkAnd, OnOk, OnErr};
 ghost use Rattle.raft_content_log.specs.Leaving.{LeavesNoMore};
 ghost use Rattle.raft_log_cleaner.specs.Cleaning.{KeepsFromBarrier};
+ghost use Rattle.raft_log_cleaner.specs.Pipes.{KeepsRewrites};
 ghost use Rattle.raft_log_cleaner.specs.Told.{is_among, queue_of};
-ghost use Rattle.raft_log_cleaning.specs.Extents.{HasOnlyNew};
+ghost use Rattle.raft_log_cleaning.specs.Extents.{HasNewRewrites, HasOnlyNew, writes_anew};
 ghost use Rattle.raft_log_cleaning.specs.declared.cleaning.Extent.TheVariants.{All, Expired, Rewrites, Stale};
 ghost use Rattle.raft_log_cleaning.specs.declared.due.Due.{Due};
 ghost use Rattle.raft_log_disk.specs.Cause.{RefusesNoMore};
@@ -77,6 +78,8 @@ impl<F: FileSystem + Drop> Engine<F> {
             → OnOk result (GoesToNeeded (traces_in self.new.traces) barrier self.old.pipes.append self.new.pipes.append) }
         ensures count { extent ≡ All → IfOk result (λ done. first_of self.old.pipes.append + done.went ≡ first_of self.new.pipes.append) }
         ensures stale_count { extent ≡ Stale → IfOk result (λ done. first_of self.old.pipes.append + done.went ≡ first_of self.new.pipes.append) }
+        ensures held { writes_anew extent ≡ false → OnOk result (KeepsRewrites self.old.pipes self.new.pipes) }
+        ensures replaced { writes_anew extent ≡ true → OnOk result (HasNewRewrites self.old.pipes self.new.pipes) }
         ensures anew { extent ≡ Rewrites → OnOk result (HasOnlyNew self.old.pipes self.new.pipes) }
         ensures rising { IfOk result (λ done. IsStrictlySortedBy nat_cmp done.told.items) }
         ensures there { IfOk result (λ done. (group : ℕ) → is_among done.told.items group ≡ true → (content_in self.old.tables group).there ≡ true) }
@@ -141,6 +144,7 @@ impl<F: FileSystem + Drop> Engine<F> {
         ensures barrier { OnOk result (KeepsFromBarrier barrier self.old.pipes self.new.pipes) }
         ensures gone { OnOk result (GoesToNeeded (traces_in self.new.traces) barrier self.old.pipes.append self.new.pipes.append) }
         ensures count { IfOk result (λ n. first_of self.old.pipes.append + n ≡ first_of self.new.pipes.append) }
+        ensures held { OnOk result (KeepsRewrites self.old.pipes self.new.pipes) }
         ensures all_written { OnOk result (HasWritten F.disk self.new (answers_on F.disk self.new) []) }
         ensures threshold { self.new.purge_threshold ≡ self.old.purge_threshold }
         ensures reads { self.new.block_reads ≡ self.old.block_reads }
@@ -195,6 +199,7 @@ impl<F: FileSystem + Drop> Engine<F> {
 /// What is due, without a rewrite queue that is held.
 fn free_of(due: Due, is_held: bool) -> Due
     ensures rewrites { result.rewrites ≡ true → (due.rewrites ≡ true) × (is_held ≡ false) }
+    ensures held { is_held ≡ true → result.rewrites ≡ false }
     ensures free { is_held ≡ false → result ≡ due }
     ensures appends { result.appends ≡ due.appends }
 {
@@ -222,6 +227,7 @@ impl<F: FileSystem + Drop> Engine<F> {
         ensures opens_still { IsSound self.old → StandsAlone F.disk self.old → OpensAs (directories_of_engine self.new) (F.disk self.new.files) (answers_on F.disk self.old) }
         ensures opens_in_tail { self.old.is_stopped ≡ false → StandsAlone F.disk self.old → OpensInTail (directories_of_engine self.new) (F.disk self.new.files) self.new.pipes }
         ensures barrier { OnOk result (KeepsFromBarrier barrier self.old.pipes self.new.pipes) }
+        ensures held { is_held ≡ true → OnOk result (KeepsRewrites self.old.pipes self.new.pipes) }
         ensures few { self.old.is_stopped ≡ false → self.old.pipes.append.older.items ≡ [] → self.old.pipes.rewrite.older.items ≡ []
             → IsOkAnd result (λ groups. groups.items ≡ []) × (self.new ≡ self.old) }
         ensures expired { self.old.has_marked ≡ false → IsLarge (queue_of self.old.pipes.append) self.old.purge_threshold

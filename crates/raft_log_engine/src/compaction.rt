@@ -2,6 +2,7 @@
 ghost use Rattle.std.specs.Prelude.{◌≡◌, ◌∷◌, ◌++◌, ℕ, List, [], true, false, Err, IfOk, IfErr, OnOk, OnErr};
 ghost use Rattle.raft_content_log.specs.Leaving.{AgreesElsewhere, IsWritten, LeavesElsewhere, MayBeWritten};
 ghost use Rattle.raft_log_disk.specs.Cause.{NothingRefuses, RefusesNoMore};
+ghost use Rattle.raft_log_engine.specs.Barred.{KeepsFound};
 ghost use Rattle.raft_log_engine.specs.Caused.{IsCompactionFault};
 ghost use Rattle.raft_log_engine.specs.Left.{IsSound, answers_on, leaves_on};
 ghost use Rattle.raft_log_engine.specs.Reads.{compaction};
@@ -58,6 +59,7 @@ impl<F: FileSystem + Drop> Engine<F> {
         ensures opens_front { (before : Content (List ℕ)) (batches : List Batch) → StandsAlone F.disk self.old → HasWritten F.disk self.old before batches
             → OpensAsFront (directories_of_engine self.new) (F.disk self.new.files) before (batches ++ (compaction group index ∷ []) ∷ []) }
         ensures all_written { OnOk result (HasWritten F.disk self.new (answers_on F.disk self.new) []) }
+        ensures marks { KeepsFound self.old self.new }
         ensures stopped { self.old.is_stopped ≡ true → result ≡ Err Stopped }
         ensures others { LeavesElsewhere (compaction group index ∷ []) (leaves_on F.disk self.old) (leaves_on F.disk self.new) }
         ensures others_answered { IsSound self.new → IsSound self.old × AgreesElsewhere (compaction group index ∷ []) (answers_on F.disk self.new) (answers_on F.disk self.old) }

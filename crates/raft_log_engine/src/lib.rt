@@ -10,6 +10,7 @@ mod compaction;
 mod crashing;
 mod engine;
 mod fault;
+mod hearing;
 mod listening;
 mod memory;
 mod opening;

@@ -3,6 +3,7 @@ ghost use Rattle.std.specs.List.Sorted.{IsStrictlySortedBy};
 ghost use Rattle.std.specs.Ordering.{nat_cmp};
 ghost use Rattle.std.specs.Prelude.{◌≡◌, ◌⊎◌, ◌+◌, ℕ, [], true, false, Err, IfErr, IfOk, IsOkAnd, OnErr, OnOk};
 ghost use Rattle.raft_content_log.specs.Leaving.{LeavesNoMore};
+ghost use Rattle.raft_log_cleaner.specs.Pipes.{KeepsRewrites};
 ghost use Rattle.raft_log_cleaner.specs.Told.{is_among, queue_of};
 ghost use Rattle.raft_log_cleaning.specs.declared.cleaning.Extent.TheVariants.{All};
 ghost use Rattle.raft_log_disk.specs.Cause.{RefusesNoMore};
@@ -17,11 +18,13 @@ ghost use Rattle.raft_log_pipe.specs.Pipe.{first_of};
 ghost use Rattle.raft_log_pipes.specs.Kept.{KeepSettings};
 ghost use Rattle.raft_log_purge.specs.Due.{IsLarge};
 ghost use Rattle.raft_log_purge.specs.Listeners.{AllKeepFrom};
-ghost use Rattle.raft_log_records.specs.declared.file_id.LogQueue.TheVariants.{Append};
+ghost use Rattle.raft_log_records.specs.declared.file_id.LogQueue.TheVariants.{Append, Rewrite};
 
 use crate::engine::Engine;
 use crate::fault::EngineFault;
+use crate::hearing::tell_begun;
 use raft_log_files::FileSystem;
+use raft_log_pipes::DualPipes;
 use raft_log_purge::{EventListener, least_kept, tell_gone};
 use raft_log_records::{FileId, FileSeq, LogQueue};
 
@@ -38,11 +41,27 @@ fn tell_last<L: EventListener>(
     }
 }
 
+/// Tells listeners of the files that a cleaning began, and of the last ones that went, where the queues
+/// had these first and last files before.
+fn tell_changes<L: EventListener>(
+    listeners: &mut [L],
+    pipes: &DualPipes,
+    appends: (FileSeq, FileSeq),
+    rewrites: (FileSeq, FileSeq),
+) {
+    let (first_append, last_append) = pipes.file_span(LogQueue::Append);
+    let (first_rewrite, last_rewrite) = pipes.file_span(LogQueue::Rewrite);
+    tell_begun(listeners, LogQueue::Append, appends.1, last_append);
+    tell_begun(listeners, LogQueue::Rewrite, rewrites.1, last_rewrite);
+    tell_last(listeners, LogQueue::Rewrite, rewrites.0, first_rewrite);
+    tell_last(listeners, LogQueue::Append, appends.0, first_append);
+}
+
 impl<F: FileSystem + Drop> Engine<F> {
     /// Cleans both queues where they are due, as `purge_expired_files` says, with listeners
     /// (raft-engine's, which are set at the opening). No append file goes from the least one on that one
-    /// of them keeps. A rewrite queue of which one keeps a file isn't written anew. Each is told of the
-    /// last file of each queue that went.
+    /// of them keeps. A rewrite queue of which one keeps a file isn't written anew, and keeps its files.
+    /// Each is told of the new files, and of the last file of each queue that went.
     pub fn purge_expired_files_with<L: EventListener>(
         &mut self,
         listeners: &mut [L],
@@ -58,6 +77,8 @@ impl<F: FileSystem + Drop> Engine<F> {
         ensures opens_in_tail { self.old.is_stopped ≡ false → StandsAlone F.disk self.old → OpensInTail (directories_of_engine self.new) (F.disk self.new.files) self.new.pipes }
         ensures kept { OnOk result ((first_of self.new.pipes.append ≡ first_of self.old.pipes.append)
             ⊎ AllKeepFrom L.kept Append (first_of self.new.pipes.append) listeners.old) }
+        ensures held { OnOk result (KeepsRewrites self.old.pipes self.new.pipes
+            ⊎ AllKeepFrom L.kept Rewrite (first_of self.new.pipes.rewrite) listeners.old) }
         ensures few { self.old.is_stopped ≡ false → self.old.pipes.append.older.items ≡ [] → self.old.pipes.rewrite.older.items ≡ []
             → IsOkAnd result (λ groups. groups.items ≡ []) × (self.new ≡ self.old) }
         ensures expired { self.old.has_marked ≡ false → IsLarge (queue_of self.old.pipes.append) self.old.purge_threshold
@@ -70,14 +91,11 @@ impl<F: FileSystem + Drop> Engine<F> {
     {
         let barrier = least_kept(listeners, LogQueue::Append);
         let is_held = least_kept(listeners, LogQueue::Rewrite).is_some();
-        let (first, _) = self.pipes.file_span(LogQueue::Append);
-        let (rewrite, _) = self.pipes.file_span(LogQueue::Rewrite);
+        let appends = self.pipes.file_span(LogQueue::Append);
+        let rewrites = self.pipes.file_span(LogQueue::Rewrite);
         match self.purge_due(barrier, is_held) {
             Ok(groups) => {
-                let (behind, _) = self.pipes.file_span(LogQueue::Append);
-                tell_last(listeners, LogQueue::Append, first, behind);
-                let (behind, _) = self.pipes.file_span(LogQueue::Rewrite);
-                tell_last(listeners, LogQueue::Rewrite, rewrite, behind);
+                tell_changes(listeners, &self.pipes, appends, rewrites);
                 Ok(groups)
             }
             Err(fault) => Err(fault),
@@ -85,7 +103,7 @@ impl<F: FileSystem + Drop> Engine<F> {
     }
 
     /// Cleans the append queue, as `clean_append_queue` says, with listeners. No file goes from the least
-    /// one on that one of them keeps, and each is told of the last one that went.
+    /// one on that one of them keeps. Each is told of the new files, and of the last one that went.
     pub fn clean_append_queue_with<L: EventListener>(
         &mut self,
         listeners: &mut [L],
@@ -103,6 +121,7 @@ impl<F: FileSystem + Drop> Engine<F> {
         ensures goes_on_in_tail { StandsAlone F.disk self.old → self.new.is_stopped ≡ false → StandsInTail F.disk self.new }
         ensures kept { OnOk result ((first_of self.new.pipes.append ≡ first_of self.old.pipes.append)
             ⊎ AllKeepFrom L.kept Append (first_of self.new.pipes.append) listeners.old) }
+        ensures held { OnOk result (KeepsRewrites self.old.pipes self.new.pipes) }
         ensures gone { OnOk result (GoesToKept L.kept listeners.old self.old self.new) }
         ensures count { IfOk result (λ n. first_of self.old.pipes.append + n ≡ first_of self.new.pipes.append) }
         ensures all_written { OnOk result (HasWritten F.disk self.new (answers_on F.disk self.new) []) }
@@ -115,11 +134,11 @@ impl<F: FileSystem + Drop> Engine<F> {
         ensures later { RefusesNoMore (F.is_bounded self.old.files) (F.is_bounded self.new.files) (F.meter self.old.files) (F.meter self.new.files) }
     {
         let barrier = least_kept(listeners, LogQueue::Append);
-        let (first, _) = self.pipes.file_span(LogQueue::Append);
+        let appends = self.pipes.file_span(LogQueue::Append);
+        let rewrites = self.pipes.file_span(LogQueue::Rewrite);
         match self.clean_append_queue(barrier) {
             Ok(went) => {
-                let (behind, _) = self.pipes.file_span(LogQueue::Append);
-                tell_last(listeners, LogQueue::Append, first, behind);
+                tell_changes(listeners, &self.pipes, appends, rewrites);
                 Ok(went)
             }
             Err(fault) => Err(fault),

@@ -5,7 +5,7 @@ ghost use Rattle.raft_log_engine.specs.Caused.{IsSyncFault};
 ghost use Rattle.raft_log_engine.specs.Closing.{handed_back};
 ghost use Rattle.raft_log_engine.specs.Left.{IsSound, answers_on};
 ghost use Rattle.raft_log_engine.specs.declared.fault.EngineFault.TheVariants.{Log, Stopped};
-ghost use Rattle.raft_log_engine.specs.Opening.{AreSetAs, CantBeOpened, HasHolesIn, IsFoundAgain, IsFoundContent, IsLeftByOpening, IsRecoveredAs};
+ghost use Rattle.raft_log_engine.specs.Opening.{AreSetAs, CantBeOpened, HasHolesIn, IsFoundAgain, IsFoundContent, IsLeftByOpening, IsRecoveredAs, KeepsWanted};
 ghost use Rattle.raft_log_engine.specs.Reopened.{OpensAs, OpensAsFront, OpensInTail, StandAlone, StandsAlone, directories_of_engine, directories_of_pipes};
 ghost use Rattle.raft_log_engine.specs.Since.{HasWritten};
 ghost use Rattle.raft_log_engine.specs.Unopened.{IsOpeningFault, IsUnopenable};
@@ -75,7 +75,8 @@ fn rewrite_threshold_of(config: &Config) -> u64
 }
 
 /// The pipes over the files that are there, and the tables and traces of their batches, where each
-/// queue is recovered in this way.
+/// queue is recovered in this way. Then reserved files are made and deleted, until there are as many
+/// as are wanted.
 fn recovered<
     F: FileSystem,
     W: Fn(
@@ -96,6 +97,8 @@ fn recovered<
     ensures settings { IfOk result (λ found. AreSetAs (settings_of config) found.0) }
     ensures holes { IfOk result (λ found. HasHolesIn config.recovery_mode (F.disk files.new) found.0) }
     ensures alone { IfOk result (λ found. ((queue : LogQueue) → IsOnce (F.disk files.old).names (directories_of (settings_of config)) queue) → StandAlone found.0 (F.disk files.new)) }
+    ensures reserved { IfOk result (λ found. KeepsWanted (settings_of config) (directories_of (settings_of config)) (F.disk files.old)
+        (F.disk files.new) (F.meter files.old) (F.meter files.new) found.0) }
     ensures err { OnErr result (IsLeftByOpening config.recovery_mode (directories_of (settings_of config)) (F.disk files.old) (F.disk files.new)) }
     ensures reads { OnErr result (IsFoundAgain config.recovery_mode (directories_of (settings_of config)) (F.disk files.old) (F.disk files.new)) }
     ensures corrupt { (f : CorruptionFault) → result ≡ Err (Log (Corruption f))
@@ -109,9 +112,11 @@ fn recovered<
     let mut builder = DualPipesBuilder::new(alloc, config);
     builder.scan(files)?;
     let factory = DefaultMachineFactory::new(alloc);
-    let (pipes, machine) = builder.recover_by(way, files, &factory)?;
+    let (mut pipes, machine) = builder.recover_by(way, files, &factory)?;
     let (first, _) = pipes.file_span(LogQueue::Append);
     let traced = machine.finish(first)?;
+    let wanted = builder.wanted_reserved();
+    pipes.prepare_reserved(files, wanted)?;
     Ok((pipes, traced))
 }
 
@@ -136,6 +141,8 @@ fn found_soundly<
     ensures settings { IfOk result (λ found. AreSetAs (settings_of config) found.0) }
     ensures holes { IfOk result (λ found. HasHolesIn config.recovery_mode (F.disk files.new) found.0) }
     ensures alone { IfOk result (λ found. ((queue : LogQueue) → IsOnce (F.disk files.old).names (directories_of (settings_of config)) queue) → StandAlone found.0 (F.disk files.new)) }
+    ensures reserved { IfOk result (λ found. KeepsWanted (sanitized (settings_of config)) (directories_of (settings_of config)) (F.disk files.old)
+        (F.disk files.new) (F.meter files.old) (F.meter files.new) found.0) }
     ensures err { OnErr result (IsLeftByOpening config.recovery_mode (directories_of (settings_of config)) (F.disk files.old) (F.disk files.new)) }
     ensures reads { OnErr result (IsFoundAgain config.recovery_mode (directories_of (settings_of config)) (F.disk files.old) (F.disk files.new)) }
     ensures corrupt { (f : CorruptionFault) → result ≡ Err (Log (Corruption f))
@@ -170,6 +177,8 @@ impl<F: FileSystem + Drop> Engine<F> {
         ensures threshold { IfOk result (λ e. e.purge_threshold ≡ (settings_of config).purge_threshold.0) }
         ensures holes { IfOk result (λ e. HasHolesIn config.recovery_mode (F.disk e.files) e.pipes) }
         ensures alone { IfOk result (λ e. ((queue : LogQueue) → IsOnce (F.disk files).names (directories_of (settings_of config)) queue) → StandsAlone F.disk e) }
+        ensures reserved { IfOk result (λ e. KeepsWanted (sanitized (settings_of config)) (directories_of (settings_of config)) (F.disk files)
+            (F.disk e.files) (F.meter files) (F.meter e.files) e.pipes) }
         ensures written { IfOk result (λ e. HasWritten F.disk e (answers_on F.disk e) []) }
         ensures opens { IfOk result (λ e. StandsAlone F.disk e → OpensAs (directories_of_engine e) (F.disk e.files) (answers_on F.disk e)) }
         ensures opens_in_tail { IfOk result (λ e. StandsAlone F.disk e → OpensInTail (directories_of_engine e) (F.disk e.files) e.pipes) }

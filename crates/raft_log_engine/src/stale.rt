@@ -2,6 +2,7 @@
 ghost use Rattle.std.specs.Prelude.{◌≡◌, ◌⊎◌, ◌+◌, [], true, false, Err, IfErr, IfOk, OnOk};
 ghost use Rattle.raft_content_log.specs.Leaving.{LeavesNoMore};
 ghost use Rattle.raft_log_cleaner.specs.Cleaning.{KeepsFromBarrier};
+ghost use Rattle.raft_log_cleaning.specs.Extents.{HasNewRewrites};
 ghost use Rattle.raft_log_cleaning.specs.declared.cleaning.Extent.TheVariants.{Stale};
 ghost use Rattle.raft_log_disk.specs.Cause.{RefusesNoMore};
 ghost use Rattle.raft_log_engine.specs.Barred.{IsBarred};
@@ -41,6 +42,7 @@ impl<F: FileSystem + Drop> Engine<F> {
         ensures goes_on_in_tail { StandsAlone F.disk self.old → self.new.is_stopped ≡ false → StandsInTail F.disk self.new }
         ensures barrier { OnOk result (KeepsFromBarrier barrier self.old.pipes self.new.pipes) }
         ensures gone { OnOk result (GoesToNeeded (traces_in self.new.traces) barrier self.old.pipes.append self.new.pipes.append) }
+        ensures replaced { OnOk result (HasNewRewrites self.old.pipes self.new.pipes) }
         ensures count { IfOk result (λ n. first_of self.old.pipes.append + n ≡ first_of self.new.pipes.append) }
         ensures all_written { OnOk result (HasWritten F.disk self.new (answers_on F.disk self.new) []) }
         ensures threshold { self.new.purge_threshold ≡ self.old.purge_threshold }

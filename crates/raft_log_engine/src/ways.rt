@@ -4,14 +4,14 @@ ghost use Rattle.std.specs.Prelude.{◌≡◌, ℕ, false, List, [], IfOk, IfErr
 ghost use Rattle.raft_log_disk.specs.Cause.{NothingRefuses, RefusesNoMore};
 ghost use Rattle.raft_log_engine.specs.Left.{IsSound, answers_on};
 ghost use Rattle.raft_log_engine.specs.declared.fault.EngineFault.TheVariants.{Log};
-ghost use Rattle.raft_log_engine.specs.Opening.{AreSetAs, CantBeOpened, HasHolesIn, IsFoundAgain, IsFoundContent, IsLeftByOpening};
+ghost use Rattle.raft_log_engine.specs.Opening.{AreSetAs, CantBeOpened, HasHolesIn, IsFoundAgain, IsFoundContent, IsLeftByOpening, KeepsWanted};
 ghost use Rattle.raft_log_engine.specs.Reopened.{OpensAs, OpensInTail, StandsAlone, directories_of_engine};
 ghost use Rattle.raft_log_engine.specs.Since.{HasWritten};
 ghost use Rattle.raft_log_engine.specs.Unopened.{IsOpeningFault, IsUnopenable};
 ghost use Rattle.raft_log_memtables.specs.Content.{Content, nothing};
 ghost use Rattle.raft_log_pipe.specs.Alone.{IsOnce};
 ghost use Rattle.raft_log_records.specs.declared.file_id.LogQueue.{LogQueue};
-ghost use Rattle.raft_log_files.specs.Settings.{settings_fault, settings_of};
+ghost use Rattle.raft_log_files.specs.Settings.{sanitized, settings_fault, settings_of};
 ghost use Rattle.raft_log_files.specs.declared.error.CorruptionFault.{CorruptionFault};
 ghost use Rattle.raft_log_files.specs.declared.error.Error.TheVariants.{Corruption, Other};
 ghost use Rattle.raft_log_files.specs.declared.error.OtherFault.{OtherFault};
@@ -82,6 +82,8 @@ impl<F: FileSystem + Drop> Engine<F> {
         ensures directories { IfOk result (λ e. directories_of_engine e ≡ directories_of (settings_of config)) }
         ensures settings { IfOk result (λ e. AreSetAs (settings_of config) e.pipes) }
         ensures threshold { IfOk result (λ e. e.purge_threshold ≡ (settings_of config).purge_threshold.0) }
+        ensures reserved { IfOk result (λ e. KeepsWanted (sanitized (settings_of config)) (directories_of (settings_of config)) (F.disk files)
+            (F.disk e.files) (F.meter files) (F.meter e.files) e.pipes) }
         ensures holes { IfOk result (λ e. HasHolesIn config.recovery_mode (F.disk e.files) e.pipes) }
         ensures alone { IfOk result (λ e. ((queue : LogQueue) → IsOnce (F.disk files).names (directories_of (settings_of config)) queue) → StandsAlone F.disk e) }
         ensures written { IfOk result (λ e. HasWritten F.disk e (answers_on F.disk e) []) }
@@ -132,6 +134,8 @@ impl<F: FileSystem + Drop> Engine<F> {
         ensures directories { IfOk result (λ e. directories_of_engine e ≡ directories_of (settings_of config)) }
         ensures settings { IfOk result (λ e. AreSetAs (settings_of config) e.pipes) }
         ensures threshold { IfOk result (λ e. e.purge_threshold ≡ (settings_of config).purge_threshold.0) }
+        ensures reserved { IfOk result (λ e. KeepsWanted (sanitized (settings_of config)) (directories_of (settings_of config)) (F.disk files)
+            (F.disk e.files) (F.meter files) (F.meter e.files) e.pipes) }
         ensures holes { IfOk result (λ e. HasHolesIn config.recovery_mode (F.disk e.files) e.pipes) }
         ensures alone { IfOk result (λ e. ((queue : LogQueue) → IsOnce (F.disk files).names (directories_of (settings_of config)) queue) → StandsAlone F.disk e) }
         ensures written { IfOk result (λ e. HasWritten F.disk e (answers_on F.disk e) []) }

@@ -12,7 +12,7 @@ pub returns-then-not-wrote_unsynced-clause-synced : goal.returns-then-not-wrote_
 returns-then-not-wrote_unsynced-clause-synced g c = λ wrote. absurd (false≢true (sym c.if-not-wrote_unsynced.true ∙ wrote))
 
 pub returns-then-not-wrote_unsynced-clause-set : goal.returns-then-not-wrote_unsynced-clause-set
-returns-then-not-wrote_unsynced-clause-set g c = ((refl, refl), (refl, refl))
+returns-then-not-wrote_unsynced-clause-set g c = ((refl, refl, refl), (refl, refl, refl))
 
 pub returns-then-not-wrote_unsynced-clause-later : goal.returns-then-not-wrote_unsynced-clause-later
 returns-then-not-wrote_unsynced-clause-later g c = no_more_same _ _

@@ -11,7 +11,7 @@ use Rattle.raft_log_files.specs.declared.recovery.RecoveryMode.{RecoveryMode}
 use Rattle.raft_log_pipe.specs.Alone.{IsOnce}
 use Rattle.raft_log_records.specs.declared.file_id.LogQueue.{LogQueue}
 use Rattle.raft_log_engine.specs.declared.fault.EngineFault.TheVariants.{Log}
-use Rattle.raft_log_engine.specs.Opening.{AreSetAs, CantBeOpened, HasHolesIn, IsFoundAgain, IsLeftByOpening, IsRecoveredAs}
+use Rattle.raft_log_engine.specs.Opening.{AreSetAs, CantBeOpened, HasHolesIn, IsFoundAgain, IsLeftByOpening, IsRecoveredAs, KeepsWanted}
 use Rattle.raft_log_engine.specs.Reopened.{StandAlone, directories_of_pipes}
 use Rattle.raft_log_recovery.proofs.DirectoryLemmas.{makes_none}
 use Rattle.raft_log_recovery.specs.Scan.{directories_of}
@@ -85,6 +85,15 @@ returns-clause-corrupt g c =
 
 pub returns-clause-settings : goal.returns-clause-settings
 returns-clause-settings g c = subst (λ (s : Settings). IfOk c.recovered.result (λ found. AreSetAs s found.0)) c.in_ok-sound.ensures.settings c.recovered.ensures.settings
+
+pub returns-clause-reserved : goal.returns-clause-reserved
+returns-clause-reserved g c =
+    let d = g.F.FileSystem.disk c.args.files.now in
+    let new = g.F.FileSystem.disk c.recovered.new.files in
+    let first = g.F.FileSystem.meter c.args.files.now in
+    let last = g.F.FileSystem.meter c.recovered.new.files in
+    subst (λ (s : Settings). IfOk c.recovered.result (λ found. KeepsWanted s (directories_of (settings_of c.args.config)) d new first last found.0)) c.in_ok-sound.ensures.settings
+    (subst (λ (l : List Text). IfOk c.recovered.result (λ found. KeepsWanted (settings_of c.in_ok-sound.sound) l d new first last found.0)) c.in_ok-sound.ensures.directories c.recovered.ensures.reserved)
 
 pub returns-clause-holes : goal.returns-clause-holes
 returns-clause-holes g c =

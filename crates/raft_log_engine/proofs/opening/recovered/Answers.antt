@@ -1,5 +1,5 @@
 -- What the files read as is what the pipes hold and the tables have; a refusal leaves it.
-use Rattle.std.proofs.Common.{ℕ, List, [], Err, ap, sym, subst, ◌∙◌, inl, inr}
+use Rattle.std.proofs.Common.{ℕ, ◌^◌, ◌<◌, ◌≤◌, List, [], length, Err, ap, sym, subst, ◌∙◌, inl, inr}
 use Rattle.std.proofs.lemmas.Bool.{false≢true}
 use Rattle.raft_log_disk.proofs.CauseLemmas.{at_err}
 use Rattle.raft_log_disk.specs.Text.{Text}
@@ -11,7 +11,14 @@ use Rattle.raft_log_recovery.specs.Queue.{directories_in, names_in}
 use Rattle.raft_log_recovery.specs.Scan.{AreFound, OnlyMakes, directories_of}
 use Rattle.raft_log_engine.specs.Opening.{IsFoundAgain, IsLeftByOpening}
 use Rattle.raft_log_engine.proofs.Again.{made_again}
-use Rattle.raft_log_engine.proofs.Opened.{both_again, both_left, recovered_as}
+use Rattle.raft_log_pipe.specs.declared.pipe.SinglePipe.{SinglePipe}
+use Rattle.raft_log_pipe.specs.Alone.{directories_of_pipe}
+use Rattle.raft_log_pipe.specs.Caused.{IsRefusalOrMemory}
+use Rattle.raft_log_pipe.specs.Pipe.{first_of}
+use Rattle.raft_log_pipe.specs.Prepared.{IsPreparedOf}
+use Rattle.raft_log_recovery.specs.Both.{wanted_of}
+use Rattle.raft_log_recovery.proofs.Unreserved.{holes_then, queue_then, with_then}
+use Rattle.raft_log_engine.proofs.Opened.{again_then, both_again, both_left, leaves_each, left_then, recovered_as}
 use Rattle.raft_log_recovery.specs.Replay.{Placed}
 use Rattle.raft_log_traced.specs.Traced.{IsReplayedTraced}
 use Rattle.raft_log_engine.proofs.OpenedTraces.{MayBeTraced, all_queue, recovered_traced}
@@ -31,7 +38,7 @@ use Rattle.raft_log_engine.specs.declared.fault.EngineFault.{EngineFault}
 use Rattle.raft_log_engine.specs.declared.fault.EngineFault.TheVariants as fault
 use Rattle.raft_log_files.specs.declared.error.Error.TheVariants.{Memory}
 use Rattle.raft_log_engine.specs.Unopened.{IsOpeningFault, IsUnopenable}
-use Rattle.raft_log_engine.proofs.Unopened.{both_cause, free_opening, scan_cause}
+use Rattle.raft_log_engine.proofs.Unopened.{both_cause, few_wanted, free_opening, prepared_since, reserved_cause, scan_cause}
 use Rattle.raft_log_engine.proofs.opening.recovered.Goals as goal
 
 -- the format of new files
@@ -115,7 +122,8 @@ returns-clause-ok g c =
     let d = g.F.FileSystem.disk c.args.files.now in
     let b = c.scan.new.self in
     let made = g.F.FileSystem.disk c.scan.new.files in
-    let new = g.F.FileSystem.disk c.recover_by.new.files in
+    let mid = g.F.FileSystem.disk c.recover_by.new.files in
+    let new = g.F.FileSystem.disk c.prepare_reserved.new.files in
     let at = c.in_ok-scan.ensures.directories ∙ ap (λ (k : Config). directories_of (settings_of k)) c.new-builder.ensures.config in
     let alike = ap (λ (k : Config). k.recovery_mode) (c.in_ok-scan.ensures.config ∙ c.new-builder.ensures.config) in
     let makes = subst (λ (k : Config). OnlyMakes (directories_of (settings_of k)) d made) c.new-builder.ensures.config c.in_ok-scan.ensures.only in
@@ -123,24 +131,25 @@ returns-clause-ok g c =
     let rewrite = subst (λ (l : List Text). AreFound made (Log Rewrite) l (names_in b Rewrite)) (sym c.in_ok-scan.ensures.directories) c.in_ok-scan.ensures.rewrite in
     let all = c.in_ok-pipes.ensures.replayed in
     let p = c.in_ok-pipes.pipes in
+    let q = c.prepare_reserved.new.self in
     let traced = c.in_ok-traced.traced in
     let content = c.in_ok-traced.ensures.content all.0 all.1 in
-    recovered_as b c.args.config.recovery_mode said at alike d made makes new p all.0 traced append rewrite (λ queue cant. false≢true (c.in_ok-pipes.ensures.refused queue cant)) c.in_ok-pipes.ensures.pipes all.2 content
-    (recovered_traced b made new p all.0 traced c.in_ok-pipes.ensures.pipes all.2 content
-    (subst (λ (n : ℕ). MayBeTraced n traced all.2.rewrites all.2.appends) c.file_span-first.ensures.first (record {
-      cleanable = c.in_ok-traced.ensures.cleanable all.2.rewrites all.2.appends (subst (λ (l : List Placed). IsReplayedTraced c.in_ok-pipes.machine l) all.2.all_are all.1)
-          (all_queue Rewrite made [] all.2.rewrite.files all.2.rewrites all.2.rewrite.got) (all_queue Append made [] all.2.append.files all.2.appends all.2.append.got);
-      unmarked = c.in_ok-traced.ensures.unmarked all.2.rewrites all.2.appends (subst (λ (l : List Placed). IsReplayedTraced c.in_ok-pipes.machine l) all.2.all_are all.1)
-          (all_queue Append made [] all.2.append.files all.2.appends all.2.append.got);
-      together = (c.in_ok-traced.ensures.together all.2.rewrites all.2.appends (subst (λ (l : List Placed). IsReplayedTraced c.in_ok-pipes.machine l) all.2.all_are all.1)
-          (all_queue Rewrite made [] all.2.rewrite.files all.2.rewrites all.2.rewrite.got) (all_queue Append made [] all.2.append.files all.2.appends all.2.append.got)).0;
-      placed = c.in_ok-traced.ensures.placed all.2.rewrites all.2.appends (subst (λ (l : List Placed). IsReplayedTraced c.in_ok-pipes.machine l) all.2.all_are all.1)
-          (all_queue Rewrite made [] all.2.rewrite.files all.2.rewrites all.2.rewrite.got) (all_queue Append made [] all.2.append.files all.2.appends all.2.append.got);
+    let w = with_then b made mid new p q c.prepare_reserved.ensures.append c.prepare_reserved.ensures.rewrite c.prepare_reserved.ensures.holds all.0 all.2 in
+    let got = subst (λ (l : List Placed). IsReplayedTraced c.in_ok-pipes.machine l) w.all_are all.1 in
+    let ones = all_queue Rewrite made [] w.rewrite.files w.rewrites w.rewrite.got in
+    let twos = all_queue Append made [] w.append.files w.appends w.append.got in
+    recovered_as b c.args.config.recovery_mode said at alike d made makes new q all.0 traced append rewrite (λ queue cant. false≢true (c.in_ok-pipes.ensures.refused queue cant)) c.prepare_reserved.ensures.pipes w content
+    (recovered_traced b made new q all.0 traced c.prepare_reserved.ensures.pipes w content
+    (subst (λ (n : ℕ). MayBeTraced n traced w.rewrites w.appends) (c.file_span-first.ensures.first ∙ sym (ap (λ (x : SinglePipe). first_of x) c.prepare_reserved.ensures.append)) (record {
+      cleanable = c.in_ok-traced.ensures.cleanable w.rewrites w.appends got ones twos;
+      unmarked = c.in_ok-traced.ensures.unmarked w.rewrites w.appends got twos;
+      together = (c.in_ok-traced.ensures.together w.rewrites w.appends got ones twos).0;
+      placed = c.in_ok-traced.ensures.placed w.rewrites w.appends got ones twos;
     })))
 
 pub returns-clause-paths : goal.returns-clause-paths
 returns-clause-paths g c =
-    c.in_ok-pipes.ensures.opened.append.paths ∙ c.in_ok-scan.ensures.directories ∙ ap (λ (k : Config). directories_of (settings_of k)) c.new-builder.ensures.config
+    ap directories_of_pipe c.prepare_reserved.ensures.append ∙ c.in_ok-pipes.ensures.opened.append.paths ∙ c.in_ok-scan.ensures.directories ∙ ap (λ (k : Config). directories_of (settings_of k)) c.new-builder.ensures.config
 
 pub returns-clause-alone : goal.returns-clause-alone
 returns-clause-alone g c =
@@ -151,9 +160,9 @@ returns-clause-alone g c =
     let at = c.in_ok-scan.ensures.directories ∙ ap (λ (k : Config). directories_of (settings_of k)) c.new-builder.ensures.config in
     let opened = c.in_ok-pipes.ensures.opened in
     λ once. record {
-      paths = opened.rewrite.paths ∙ sym opened.append.paths;
-      append = opened.append.alone (once_there d made _ said (directories_in b) Append c.in_ok-scan.ensures.only at (once Append));
-      rewrite = opened.rewrite.alone (once_there d made _ said (directories_in b) Rewrite c.in_ok-scan.ensures.only at (once Rewrite));
+      paths = ap directories_of_pipe c.prepare_reserved.ensures.rewrite ∙ opened.rewrite.paths ∙ sym opened.append.paths ∙ sym (ap directories_of_pipe c.prepare_reserved.ensures.append);
+      append = c.prepare_reserved.ensures.alone Append (opened.append.alone (once_there d made _ said (directories_in b) Append c.in_ok-scan.ensures.only at (once Append)));
+      rewrite = c.prepare_reserved.ensures.alone Rewrite (opened.rewrite.alone (once_there d made _ said (directories_in b) Rewrite c.in_ok-scan.ensures.only at (once Rewrite)));
     }
 
 pub returns-in_err-scan-clause-corrupt : goal.returns-in_err-scan-clause-corrupt
@@ -185,20 +194,134 @@ returns-in_err-pipes-clause-corrupt g c =
 pub returns-clause-settings : goal.returns-clause-settings
 returns-clause-settings g c =
     let same = c.in_ok-scan.ensures.config ∙ c.new-builder.ensures.config in
-    let opened = c.in_ok-pipes.ensures.opened in (
-      (opened.append.settings.0 ∙ ap (λ (k : Config). k.target_file_size.0) same, opened.append.settings.1 ∙ ap plain_format same),
-      (opened.rewrite.settings.0 ∙ ap (λ (k : Config). k.target_file_size.0) same, opened.rewrite.settings.1 ∙ ap plain_format same),
+    let opened = c.in_ok-pipes.ensures.opened in
+    let append = c.prepare_reserved.ensures.append in
+    let rewrite = c.prepare_reserved.ensures.rewrite in (
+      (ap (λ (x : SinglePipe). x.target_file_size) append ∙ opened.append.settings.0 ∙ ap (λ (k : Config). k.target_file_size.0) same, ap (λ (x : SinglePipe). x.default_format) append ∙ opened.append.settings.1 ∙ ap plain_format same),
+      (ap (λ (x : SinglePipe). x.target_file_size) rewrite ∙ opened.rewrite.settings.0 ∙ ap (λ (k : Config). k.target_file_size.0) same, ap (λ (x : SinglePipe). x.default_format) rewrite ∙ opened.rewrite.settings.1 ∙ ap plain_format same),
     )
 
 pub returns-clause-holes : goal.returns-clause-holes
 returns-clause-holes g c =
+    let met = g.met.F.FileSystem g.world.𝓛 g.world.𝓜 g.world.𝓡 ((λ s x. x), (λ x. x), (λ x. x), λ x. x) in
+    let b = c.scan.new.self in
+    let made = g.F.FileSystem.disk c.scan.new.files in
+    let mid = g.F.FileSystem.disk c.recover_by.new.files in
+    let new = g.F.FileSystem.disk c.prepare_reserved.new.files in
     let same = c.in_ok-scan.ensures.config ∙ c.new-builder.ensures.config in
-    λ queue hole. sym (ap (λ (k : Config). k.recovery_mode) same) ∙ (c.in_ok-pipes.ensures.holes queue hole).0
+    λ queue hole.
+    sym (ap (λ (k : Config). k.recovery_mode) same)
+    ∙ (c.in_ok-pipes.ensures.holes queue
+    (holes_then b made mid new c.in_ok-pipes.pipes c.prepare_reserved.new.self c.prepare_reserved.ensures.append c.prepare_reserved.ensures.rewrite (met.is_named c.recover_by.new.files) (met.is_named c.prepare_reserved.new.files) c.prepare_reserved.ensures.unreserved
+    c.in_ok-pipes.ensures.pipes queue hole)).0
+
+-- ---- reserved files
+
+pub returns-clause-reserved : goal.returns-clause-reserved
+returns-clause-reserved g c =
+    let d = g.F.FileSystem.disk c.args.files.now in
+    let b = c.scan.new.self in
+    let made = g.F.FileSystem.disk c.scan.new.files in
+    let new = g.F.FileSystem.disk c.prepare_reserved.new.files in
+    let first = g.F.FileSystem.meter c.args.files.now in
+    let last = g.F.FileSystem.meter c.prepare_reserved.new.files in
+    let q = c.prepare_reserved.new.self in
+    let config = c.in_ok-scan.ensures.config ∙ c.new-builder.ensures.config in
+    let wanted = c.wanted_reserved-wanted.ensures ∙ ap (λ (k : Config). wanted_of (settings_of k) (length (names_in b Append))) config in
+    record {
+      made = made;
+      appends = names_in b Append;
+      makes = subst (λ (k : Config). OnlyMakes (directories_of (settings_of k)) d made) c.new-builder.ensures.config c.in_ok-scan.ensures.only;
+      found = subst (λ (k : Config). AreFound made (Log Append) (directories_of (settings_of k)) (names_in b Append)) c.new-builder.ensures.config c.in_ok-scan.ensures.append;
+      few = subst (λ (n : ℕ). length q.append.reserved.items ≤ n) wanted c.in_ok-prepare_reserved.ensures.ok;
+      prepared = subst (λ (n : ℕ). IsPreparedOf q.append new n first last) wanted
+          (prepared_since q.append new c.wanted_reserved-wanted.result first (g.F.FileSystem.meter c.recover_by.new.files) last (no_more_then c.in_ok-scan.ensures.later c.in_ok-pipes.ensures.later) c.in_ok-prepare_reserved.ensures.made);
+    }
+
+pub returns-in_err-prepare_reserved-clause-err : goal.returns-in_err-prepare_reserved-clause-err
+returns-in_err-prepare_reserved-clause-err g c =
+    let met = g.met.F.FileSystem g.world.𝓛 g.world.𝓜 g.world.𝓡 ((λ s x. x), (λ x. x), (λ x. x), λ x. x) in
+    let said = directories_of (settings_of c.args.config) in
+    let d = g.F.FileSystem.disk c.args.files.now in
+    let b = c.scan.new.self in
+    let made = g.F.FileSystem.disk c.scan.new.files in
+    let mid = g.F.FileSystem.disk c.recover_by.new.files in
+    let new = g.F.FileSystem.disk c.prepare_reserved.new.files in
+    let at = c.in_ok-scan.ensures.directories ∙ ap (λ (k : Config). directories_of (settings_of k)) c.new-builder.ensures.config in
+    let alike = ap (λ (k : Config). k.recovery_mode) (c.in_ok-scan.ensures.config ∙ c.new-builder.ensures.config) in
+    let makes = subst (λ (k : Config). OnlyMakes (directories_of (settings_of k)) d made) c.new-builder.ensures.config c.in_ok-scan.ensures.only in
+    let append = subst (λ (l : List Text). AreFound made (Log Append) l (names_in b Append)) (sym c.in_ok-scan.ensures.directories) c.in_ok-scan.ensures.append in
+    let rewrite = subst (λ (l : List Text). AreFound made (Log Rewrite) l (names_in b Rewrite)) (sym c.in_ok-scan.ensures.directories) c.in_ok-scan.ensures.rewrite in
+    let all = c.in_ok-pipes.ensures.replayed in
+    let p = c.in_ok-pipes.pipes in
+    let q = c.prepare_reserved.new.self in
+    let leaves = c.recover_by.ensures.leaves in
+    at_err c.from_residual-in_err-prepare_reserved.result (IsLeftByOpening c.args.config.recovery_mode said d new)
+    (inr (left_then b c.args.config.recovery_mode said at alike d made makes mid new append rewrite leaves.only c.prepare_reserved.ensures.unreserved
+    (λ queue.
+    queue_then b made mid new p q c.prepare_reserved.ensures.append c.prepare_reserved.ensures.rewrite (met.is_named c.recover_by.new.files) (met.is_named c.prepare_reserved.new.files) c.prepare_reserved.ensures.unreserved c.in_ok-pipes.ensures.pipes
+    b.config.recovery_mode queue all.0 all.2 (leaves_each b c.args.config.recovery_mode said at alike d made makes mid leaves queue))))
+
+pub returns-in_err-prepare_reserved-clause-reads : goal.returns-in_err-prepare_reserved-clause-reads
+returns-in_err-prepare_reserved-clause-reads g c =
+    let met = g.met.F.FileSystem g.world.𝓛 g.world.𝓜 g.world.𝓡 ((λ s x. x), (λ x. x), (λ x. x), λ x. x) in
+    let said = directories_of (settings_of c.args.config) in
+    let d = g.F.FileSystem.disk c.args.files.now in
+    let b = c.scan.new.self in
+    let made = g.F.FileSystem.disk c.scan.new.files in
+    let mid = g.F.FileSystem.disk c.recover_by.new.files in
+    let new = g.F.FileSystem.disk c.prepare_reserved.new.files in
+    let at = c.in_ok-scan.ensures.directories ∙ ap (λ (k : Config). directories_of (settings_of k)) c.new-builder.ensures.config in
+    let alike = ap (λ (k : Config). k.recovery_mode) (c.in_ok-scan.ensures.config ∙ c.new-builder.ensures.config) in
+    let makes = subst (λ (k : Config). OnlyMakes (directories_of (settings_of k)) d made) c.new-builder.ensures.config c.in_ok-scan.ensures.only in
+    let append = subst (λ (l : List Text). AreFound made (Log Append) l (names_in b Append)) (sym c.in_ok-scan.ensures.directories) c.in_ok-scan.ensures.append in
+    let rewrite = subst (λ (l : List Text). AreFound made (Log Rewrite) l (names_in b Rewrite)) (sym c.in_ok-scan.ensures.directories) c.in_ok-scan.ensures.rewrite in
+    let all = c.in_ok-pipes.ensures.replayed in
+    let p = c.in_ok-pipes.pipes in
+    let q = c.prepare_reserved.new.self in
+    let leaves = c.recover_by.ensures.leaves in
+    at_err c.from_residual-in_err-prepare_reserved.result (IsFoundAgain c.args.config.recovery_mode said d new)
+    (again_then b c.args.config.recovery_mode said at alike d made makes new
+    (λ queue.
+    queue_then b made mid new p q c.prepare_reserved.ensures.append c.prepare_reserved.ensures.rewrite (met.is_named c.recover_by.new.files) (met.is_named c.prepare_reserved.new.files) c.prepare_reserved.ensures.unreserved c.in_ok-pipes.ensures.pipes
+    b.config.recovery_mode queue all.0 all.2 (leaves_each b c.args.config.recovery_mode said at alike d made makes mid leaves queue)))
+
+pub returns-in_err-prepare_reserved-clause-corrupt : goal.returns-in_err-prepare_reserved-clause-corrupt
+returns-in_err-prepare_reserved-clause-corrupt g c =
+    let said = directories_of (settings_of c.args.config) in
+    let d = g.F.FileSystem.disk c.args.files.now in
+    passed_on (λ (f : CorruptionFault). (queue : LogQueue) × CantBeOpened c.args.config.recovery_mode said queue d) c.in_err-prepare_reserved.field-0.0 c.from_residual-in_err-prepare_reserved.result
+    c.from_residual-in_err-prepare_reserved.ensures.1
+    (λ f same. absurd (subst (λ (e : Error). IsRefusalOrMemory (g.F.FileSystem.meter c.recover_by.new.files) (g.F.FileSystem.meter c.prepare_reserved.new.files) e) same c.in_err-prepare_reserved.ensures.cause))
 
 -- ---- why it is refused
 
 pub returns-clause-later : goal.returns-clause-later
-returns-clause-later g c = no_more_then c.in_ok-scan.ensures.later c.in_ok-pipes.ensures.later
+returns-clause-later g c = no_more_then (no_more_then c.in_ok-scan.ensures.later c.in_ok-pipes.ensures.later) c.prepare_reserved.ensures.later
+
+pub returns-in_err-prepare_reserved-clause-later : goal.returns-in_err-prepare_reserved-clause-later
+returns-in_err-prepare_reserved-clause-later g c = no_more_then (no_more_then c.in_ok-scan.ensures.later c.in_ok-pipes.ensures.later) c.prepare_reserved.ensures.later
+
+pub returns-in_err-prepare_reserved-clause-cause : goal.returns-in_err-prepare_reserved-clause-cause
+returns-in_err-prepare_reserved-clause-cause g c =
+    let said = directories_of (settings_of c.args.config) in
+    let mode = c.args.config.recovery_mode in
+    let d = g.F.FileSystem.disk c.args.files.now in
+    let b = c.scan.new.self in
+    let mid = g.F.FileSystem.disk c.recover_by.new.files in
+    let new = g.F.FileSystem.disk c.prepare_reserved.new.files in
+    let free = g.F.FileSystem.is_bounded c.args.files.now in
+    let first = g.F.FileSystem.meter c.args.files.now in
+    let last = g.F.FileSystem.meter c.prepare_reserved.new.files in
+    let few = subst (λ (n : ℕ). n < 2 ^ 32) (sym c.wanted_reserved-wanted.ensures) (few_wanted (settings_of b.config) (length (names_in b Append))) in
+    told_cause c.from_residual-in_err-prepare_reserved.result (fault.Log c.in_err-prepare_reserved.field-0.0) (λ (x : EngineFault). IsOpeningFault None mode said d new free first last x) c.from_residual-in_err-prepare_reserved.ensures.1
+    (reserved_cause mode said d new free first last mid c.wanted_reserved-wanted.result (length c.in_ok-pipes.pipes.append.reserved.items) (g.F.FileSystem.is_bounded c.recover_by.new.files) (g.F.FileSystem.meter c.recover_by.new.files) few
+    c.prepare_reserved.ensures.unreserved.next (no_more_then c.in_ok-scan.ensures.later c.in_ok-pipes.ensures.later) c.in_err-prepare_reserved.field-0.0 c.in_err-prepare_reserved.ensures.cause c.in_err-prepare_reserved.ensures.taken)
+
+pub returns-in_err-prepare_reserved-clause-taken : goal.returns-in_err-prepare_reserved-clause-taken
+returns-in_err-prepare_reserved-clause-taken g c =
+    free_opening c.args.config.recovery_mode (directories_of (settings_of c.args.config)) (g.F.FileSystem.disk c.args.files.now) (g.F.FileSystem.disk c.prepare_reserved.new.files) (g.F.FileSystem.is_bounded c.args.files.now)
+    (g.F.FileSystem.meter c.args.files.now) (g.F.FileSystem.meter c.prepare_reserved.new.files) None c.from_residual-in_err-prepare_reserved.result (returns-in_err-prepare_reserved-clause-cause g c)
 
 pub returns-in_err-pipes-clause-later : goal.returns-in_err-pipes-clause-later
 returns-in_err-pipes-clause-later g c = no_more_then c.in_ok-scan.ensures.later c.in_err-pipes.ensures.later

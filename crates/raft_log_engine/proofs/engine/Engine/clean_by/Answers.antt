@@ -1,15 +1,17 @@
 -- A cleaning: the content stays, and whatever a crash leaves of one that was refused reads as it.
-use Rattle.std.proofs.Common.{◌≡◌, ◌⊎◌, ℕ, ◌+◌, ◌≤◌, [], refl, rules, sym, subst, ◌∙◌}
+use Rattle.std.proofs.Common.{◌≡◌, ◌⊎◌, ℕ, ◌+◌, ◌≤◌, [], ap, refl, rules, sym, subst, ◌∙◌}
 use Rattle.std.specs.Prelude.{IfSome}
 use Rattle.std.proofs.lemmas.Bool.{false≢true}
 use Rattle.raft_log_disk.proofs.RefusalLemmas.{no_more_same, no_more_then}
+use Rattle.raft_log_pipe.specs.declared.pipe.SinglePipe.{SinglePipe}
 use Rattle.raft_log_pipe.specs.Pipe.{first_of}
+use Rattle.raft_log_pipe.proofs.FirstLemmas.{same_first}
 use Rattle.raft_log_blocks.specs.Held.{seen_on}
 use Rattle.raft_log_engine.specs.Reopened.{OpensAs, directories_of_pipes}
 use Rattle.raft_log_engine.proofs.Clauses.{kept_by, parts}
 use Rattle.raft_log_traces.specs.GroupTraces.{traces_in}
 use Rattle.raft_log_engine.proofs.Barred.{barred}
-use Rattle.raft_log_engine.proofs.Cleaned.{both_stand, can_clean, cleaned_holds, cleaned_kept, cleaned_left, cleaned_seen, cleaned_written, gone_since, large_still, only_new_since, same_first, set_then, standing_in_tail, standing_opens}
+use Rattle.raft_log_engine.proofs.Cleaned.{both_stand, can_clean, cleaned_holds, cleaned_kept, cleaned_left, cleaned_seen, cleaned_written, gone_since, large_still, only_new_since, set_then, standing_in_tail, standing_opens}
 use Rattle.raft_log_engine.proofs.Reopened.{kept_opens, synced_stands}
 use Rattle.raft_log_engine.proofs.Tails.{held_in_tail}
 use Rattle.raft_log_engine.proofs.engine.Engine.clean_by.Goals as goal
@@ -241,6 +243,12 @@ returns-in-Ok-clause-anew g c =
     let still = c.in_default.ensures.still in
     rw (← c.self.view_is) (λ is. only_new_since c.self.inside.pipes c.sync_unsynced.new.pipes c.clean.new.pipes still.same still.other.same (c.in-Ok.ensures.anew is))
 
+pub returns-in-Ok-clause-held : goal.returns-in-Ok-clause-held
+returns-in-Ok-clause-held g c = rw (← c.self.view_is) (λ kept. c.in-Ok.ensures.held kept ∙ ap first_of c.in_default.ensures.still.other.same)
+
+pub returns-in-Ok-clause-replaced : goal.returns-in-Ok-clause-replaced
+returns-in-Ok-clause-replaced g c = rw (← c.self.view_is) (λ anew. c.in-Ok.ensures.replaced anew ∙ ap (λ (x : SinglePipe). x.active.seq + 1) c.in_default.ensures.still.other.same)
+
 pub returns-in-Ok-clause-there : goal.returns-in-Ok-clause-there
 returns-in-Ok-clause-there g c = rw (← c.self.view_is) c.in-Ok.ensures.there
 
@@ -340,7 +348,7 @@ pub returns-then-not-may_clean-clause-paths : goal.returns-then-not-may_clean-cl
 returns-then-not-may_clean-clause-paths g c = rw (← c.self.view_is) refl
 
 pub returns-then-not-may_clean-clause-set : goal.returns-then-not-may_clean-clause-set
-returns-then-not-may_clean-clause-set g c = rw (← c.self.view_is) ((refl, refl), (refl, refl))
+returns-then-not-may_clean-clause-set g c = rw (← c.self.view_is) ((refl, refl, refl), (refl, refl, refl))
 
 pub returns-then-not-may_clean-clause-opens_still : goal.returns-then-not-may_clean-clause-opens_still
 returns-then-not-may_clean-clause-opens_still g c =
@@ -373,7 +381,7 @@ pub returns-then-self-clause-paths : goal.returns-then-self-clause-paths
 returns-then-self-clause-paths g c = rw (← c.self.view_is) refl
 
 pub returns-then-self-clause-set : goal.returns-then-self-clause-set
-returns-then-self-clause-set g c = rw (← c.self.view_is) ((refl, refl), (refl, refl))
+returns-then-self-clause-set g c = rw (← c.self.view_is) ((refl, refl, refl), (refl, refl, refl))
 
 pub returns-then-self-clause-opens_still : goal.returns-then-self-clause-opens_still
 returns-then-self-clause-opens_still g c = rw (← c.self.view_is) (λ sound. absurd (false≢true (sym sound.goes_on ∙ c.if-self.true)))

@@ -1,9 +1,11 @@
 -- A cleaning, or none where nothing is due.
-use Rattle.std.proofs.Common.{Err, ap, refl, subst, sym, ◌∙◌}
+use Rattle.std.proofs.Common.{Err, ⊎_elim, ap, refl, subst, sym, ◌∙◌}
 use Rattle.std.specs.List.Sorted.{IsStrictlySortedBy}
 use Rattle.std.specs.Ordering.{nat_cmp}
 use Rattle.raft_log_cleaner.proofs.Calls.{barrier_same}
 use Rattle.raft_log_engine.specs.declared.fault.EngineFault.{EngineFault}
+use Rattle.raft_log_engine.specs.contracts.fault.EngineFault.{the_type}
+use denote.Enum.Declared.{tag_of}
 use Rattle.raft_log_engine.proofs.Clauses.{kept_by, parts}
 use Rattle.raft_log_engine.proofs.Cleaned.{told_places}
 use Rattle.raft_log_engine.proofs.Reopened.{kept_opens}
@@ -62,8 +64,20 @@ returns-in-Err-Marked-clause-barrier g c =
     let same = c.clean_by.ensures.marked (c.in-Err-Marked.is ∙ ap (λ (fault : EngineFault). Err fault) c.in-Err-Marked.field-0-is) in
     rw same (barrier_same c.args.barrier c.args.self.now.pipes c.args.self.now.pipes refl)
 
+pub returns-in-Err-Marked-clause-held : goal.returns-in-Err-Marked-clause-held
+returns-in-Err-Marked-clause-held g c =
+    let same = c.clean_by.ensures.marked (c.in-Err-Marked.is ∙ ap (λ (fault : EngineFault). Err fault) c.in-Err-Marked.field-0-is) in
+    λ held. rw same refl
+
+pub returns-in-Ok-clean_by-clause-held : goal.returns-in-Ok-clean_by-clause-held
+returns-in-Ok-clean_by-clause-held g c = λ held. c.in-Ok-clean_by.ensures.held (c.free_of-free.ensures.held held)
+
 pub returns-in-Ok-clean_by-clause-expired : goal.returns-in-Ok-clean_by-clause-expired
 returns-in-Ok-clean_by-clause-expired g c = λ unmarked large. c.in-Ok-clean_by.ensures.expired c.free_of-free.result refl large
 
 pub returns-in-Err-clause-expired : goal.returns-in-Err-clause-expired
 returns-in-Err-clause-expired g c = λ unmarked large. tt
+
+-- the fault is another one than that of the arm before
+pub returns-in-Err-clause-stops : goal.returns-in-Err-clause-stops
+returns-in-Err-clause-stops g c = ⊎_elim (λ same. absurd (c.in-Err.in-Err-own'.refused-1.1 (ap (tag_of the_type) same))) (λ stopped. stopped) c.in-Err.ensures.stops

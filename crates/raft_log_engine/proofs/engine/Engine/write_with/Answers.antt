@@ -28,7 +28,7 @@ use Rattle.raft_log_engine.proofs.Caused.{failed_cause, refused_cause, stopped_c
 use Rattle.raft_log_engine.specs.Caused.{IsWriteFault}
 use Rattle.raft_log_engine.specs.declared.fault.EngineFault.{EngineFault}
 use Rattle.raft_log_pipe.proofs.CausedLemmas.{told_cause}
-use Rattle.raft_log_engine.proofs.engine.Engine.write.Goals as goal
+use Rattle.raft_log_engine.proofs.engine.Engine.write_with.Goals as goal
 
 pub returns-then-self-clause-opens_front : goal.returns-then-self-clause-opens_front
 returns-then-self-clause-opens_front g c =
