@@ -176,6 +176,18 @@ pub fn refusal<F: FileSystem>(files: &mut F, alloc: Global, mode: RecoveryMode) 
     }
 }
 
+/// Opens both, rotates the append queue and puts a key, and answers the names of the files then.
+pub fn rotated<F: FileSystem>(
+    files: &mut F,
+    alloc: Global,
+    mode: RecoveryMode,
+) -> Result<Vec<String>, Error> {
+    let (mut pipes, _tables) = open(files, alloc, mode)?;
+    pipes.rotate(files, LogQueue::Append)?;
+    write(files, alloc, pipes)?;
+    Ok(files.list(alloc, "main")?)
+}
+
 /// The lengths of the first files of both queues.
 pub fn lengths<F: FileSystem>(
     files: &mut F,

@@ -1,7 +1,7 @@
 //! Which calls the words of a row name.
 
 use crate::files::make_all;
-use crate::queues::{Opened, lengths, refusal, shown};
+use crate::queues::{Opened, lengths, refusal, rotated, shown};
 use raft_log_files::{CrashFiles, Error, FileSystem, MemoryFileSystem, RecoveryMode};
 use raft_rows::{Answer, Rows, number};
 use std::alloc::Global;
@@ -44,11 +44,29 @@ fn stopped(
     Ok((refused, append, rewrite))
 }
 
+/// What two openings leave, each with a rotation, and what a third one shows.
+fn reused(
+    alloc: Global,
+    mode: RecoveryMode,
+    words: &[&str],
+) -> Result<(Vec<String>, Vec<String>, Opened), Error> {
+    let mut files = MemoryFileSystem::new(alloc);
+    files.make_dir("main")?;
+    make_all(&mut files, alloc, words)?;
+    let first = rotated(&mut files, alloc, mode)?;
+    let second = rotated(&mut files, alloc, mode)?;
+    let (opened, _again) = shown(&mut files, alloc, mode)?;
+    Ok((first, second, opened))
+}
+
 impl Rows for Calls {
     fn answer(&mut self, alloc: Global, words: &[&str]) -> Option<Answer> {
         Some(match words {
             ["open", mode, words @ ..] => {
                 Answer::shown(alloc, &opened(alloc, mode_of(mode)?, words))
+            }
+            ["reuse", mode, words @ ..] => {
+                Answer::shown(alloc, &reused(alloc, mode_of(mode)?, words))
             }
             ["stop", fuse, mode, words @ ..] => Answer::shown(
                 alloc,

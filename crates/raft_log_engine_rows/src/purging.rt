@@ -154,7 +154,7 @@ fn told_by(engine: &mut Engine<MemoryFileSystem>, alloc: Global, word: &str) -> 
 }
 
 /// The engine over files, of which the append queue is large past so many bytes.
-fn opened(
+pub(crate) fn opened(
     files: MemoryFileSystem,
     alloc: Global,
     target_size: u64,

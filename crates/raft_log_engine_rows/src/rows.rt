@@ -4,8 +4,10 @@ use crate::calls::{Told, steps_on};
 use crate::cleaning::cleanings_of;
 use crate::damage::{Harm, harmed};
 use crate::found::{littered, many_groups, spilled, unread};
+use crate::hearing::heard_over;
 use crate::logs::{crash, genuine, refused_openings};
 use crate::patient::keeps_told;
+use crate::prefilled::{prefilled, reused};
 use crate::purging::{expired, kept_at_stops};
 use crate::reopening::{config_of, reopened, run_of};
 use crate::stops::{Plan, closes_of, first_stops, stops_of};
@@ -123,6 +125,14 @@ fn log_row(alloc: Global, words: &[&str]) -> Option<Answer> {
             Answer::shown(alloc, &crash(alloc, target_size, how, count))
         }
         ["genuine", first] => Answer::shown(alloc, &genuine(alloc, number(first))),
+        ["prefilled", how, target_size, threshold, steps @ ..] => {
+            let sizes = (number(target_size), number(threshold));
+            Answer::shown(alloc, &prefilled(alloc, how, sizes, steps))
+        }
+        ["reused", how, target_size, threshold, steps @ ..] => {
+            let sizes = (number(target_size), number(threshold));
+            Answer::shown(alloc, &reused(alloc, how, sizes, steps))
+        }
         _ => found_row(alloc, words)?,
     })
 }
@@ -140,6 +150,10 @@ fn found_row(alloc: Global, words: &[&str]) -> Option<Answer> {
         ["expired", target_size, threshold, steps @ ..] => {
             let (target_size, threshold) = (number(target_size), number(threshold));
             Answer::shown(alloc, &expired(alloc, target_size, threshold, steps))
+        }
+        ["hearing", target_size, threshold, steps @ ..] => {
+            let (target_size, threshold) = (number(target_size), number(threshold));
+            Answer::shown(alloc, &heard_over(alloc, target_size, threshold, steps))
         }
         ["expires", how, target_size, threshold, steps @ ..] => {
             let sizes = (number(target_size), number(threshold));
