@@ -134,10 +134,6 @@ module _ (d : Disk) where
 pub most_of_memory : (m : MemoryFileSystem) → IsImageOf Most (disk_in m)
 most_of_memory m = most_is_an_image (disk_in m) (memory_is_named m) (memory_images m)
 
-pub on_ok : {X E : Type 0} (r : Result X E) (P Q : Type 0) → (P → Q) → OnOk r P → OnOk r Q
-on_ok (Ok x) P Q so p = so p
-on_ok (Err e) P Q so p = tt
-
 -- ---- a log whose machine stopped
 
 pub is_crashed : (old new : LogOn MemoryFileSystem) (result : Result (Unit {0}) CrashRefusal)

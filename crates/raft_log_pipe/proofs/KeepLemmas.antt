@@ -30,12 +30,13 @@ use Rattle.raft_log_pipe.specs.Prepared.{IsFrontOf, number_behind}
 use Rattle.raft_log_pipe.specs.Purging.{AreGone, AreKeptIfCan, AreLastOf, CanBeKept, IsKept, IsKeptFile, IsKeptIfCan, KeepsFrom, NamesNoOther, kept_behind, kept_path}
 use Rattle.raft_log_pipe.specs.Reserved.{AreReserved, IsReserved, IsReservedPath, reserved_path}
 use Rattle.raft_log_pipe.specs.Taken.{HasLost}
-use Rattle.raft_log_pipe.proofs.PrefillLemmas.{all_behind, push_reserved}
+use Rattle.raft_log_pipe.proofs.PrefillLemmas.{all_behind, none_of, push_reserved}
 use Rattle.raft_log_pipe.proofs.AloneLemmas.{found_in, in_first, mapped_at, never_some, none_some, said_in, with_older}
 use Rattle.raft_log_pipe.proofs.LostLemmas.{first_lost, lost_before}
 use Rattle.raft_log_pipe.proofs.OthersLemmas.{found_there, one_path}
+use Rattle.raft_log_pipe.proofs.PipeLemmas.{in_all}
 use Rattle.raft_log_pipe.proofs.PurgeLemmas.{IsPurged, first_gone, first_number, first_placed, log_kept, older_number, purged_so, removed_first, same_keeps, same_number}
-use Rattle.raft_log_pipe.proofs.ReservedLemmas.{not_same, one_number, reserved_none, says_none}
+use Rattle.raft_log_pipe.proofs.ReservedLemmas.{digits_slash, not_same, one_number, reserved_none, says_none}
 use Rattle.raft_log_pipe.proofs.ReuseLemmas.{pipe_with}
 
 -- ---- lists
@@ -43,11 +44,6 @@ use Rattle.raft_log_pipe.proofs.ReuseLemmas.{pipe_with}
 all_front : {X : Type 0} (P : X → Type 0) (xs ys : List X) → AllByRecursion P (xs ++ ys) → AllByRecursion P xs
 all_front P [] ys all = tt
 all_front P (x ∷ xs) ys all = (all.0, all_front P xs ys all.1)
-
-all_in : {X : Type 0} (P : X → Type 0) (xs : List X) (x : X) → AllByRecursion P xs → IsIn x xs → P x
-all_in P [] x all there = absurd there
-all_in P (y ∷ xs) x all (inl same) = subst P (sym same) all.0
-all_in P (y ∷ xs) x all (inr there) = all_in P xs x all.1 there
 
 in_end : {X : Type 0} (x : X) (xs : List X) → IsIn x (xs ++ x ∷ [])
 in_end x [] = inl refl
@@ -78,13 +74,6 @@ module _ (queue : LogQueue) (directories : List Text) (d : Disk) where
   reserved_front (r ∷ rs) ss all = (all.0, all_front (λ s. r.seq < s.seq) rs ss all.1, reserved_front rs ss all.2)
 
 -- ---- reserved names have no slash
-
-digits_slash : (text : Text) → list_all is_digit text ≡ true → has_slash text ≡ false
-digits_slash [] all = refl
-digits_slash (b ∷ text) all =
-    let parts = and_parts (is_digit b) (list_all is_digit text) all in
-    let apart : (b == 47) ≡ false = ne_eqb b 47 (λ same. absurd (omega (arith, ltb-true 47 b (and_parts (nat_lt 47 b) (nat_lt b 58) parts.0).0, same))) in
-    λ i. apart i || digits_slash text parts.1 i
 
 reserved_slash : (n : ℕ) → IsFileSeq n → has_slash (reserved_name n) ≡ false
 reserved_slash n below =
@@ -317,7 +306,7 @@ module _ (p q r : SinglePipe) (d y g : Disk) (queue : q.queue ≡ p.queue) (path
         not_there fd found = ⊎_elim
             (λ old. none_some (fd_of d.names (kept_path p rs f)) fd can.free (found_there d.names d.next (kept_path p rs f) fd named old))
             (λ (s, among, same).
-            let below : s.seq < number_behind rs 1 = all_in (λ (x : ReservedFile). x.seq < number_behind rs 1) rs s rising (in_front s q.reserved.items rs here among) in
+            let below : s.seq < number_behind rs 1 = in_all (λ (x : ReservedFile). x.seq < number_behind rs 1) rs s rising (in_front s q.reserved.items rs here among) in
             let number = (one_reserved q.queue (directories_of_pipe q) y q.reserved.items s pipe_q.reserved among).number in
             absurd (omega (arith, below, one_number (get_or places f.path_id []) (get_or (directories_of_pipe q) s.path_id []) (number_behind rs 1) s.seq can.number number same)))
             (fresh (kept_path p rs f) fd (found_in y.names (kept_path p rs f) fd found))
@@ -404,12 +393,8 @@ can_yes p d room f directory path own version few number within at is there vaca
       number = number;
       directory = subst (λ (t : Text). IsIn t d.directories) (sym here) there;
       vacant = λ other. vacant (subst (λ (t : Text). IsIn t d.directories) (sym same) other);
-      free = ap (fd_of d.names) (sym same) ∙ by_option (fd_of d.names path) free;
+      free = ap (fd_of d.names) (sym same) ∙ none_of (fd_of d.names path) free;
     }
-  where
-    by_option : (o : Option ℕ) → not (is_some o) ≡ true → o ≡ None
-    by_option None free = refl
-    by_option (Some n) free = absurd cc
 
 pub can_no : (p : SinglePipe) (d : Disk) (room : ℕ) (f : File) (directory : String Global) (path : Text) → f.path_id < length p.paths.items → directory ≡ get_or p.paths.items f.path_id directory
     → path ≡ string_bytes directory ++ 47 ∷ reserved_name (number_behind p.reserved.items 1) → CanBeKept p d room p.reserved.items f → IsIn (string_bytes directory) d.directories × ((IsIn path d.directories → ⊥) × (not (is_some (fd_of d.names path)) ≡ true))
@@ -421,10 +406,6 @@ can_no p d room f directory path low at is can =
     )
 
 -- ---- behind a call
-
-pub ok_map : {T E : Type 0} (r : Result T E) (P Q : Type 0) → (P → Q) → OnOk r P → OnOk r Q
-ok_map (Ok x) P Q f p = f p
-ok_map (Err e) P Q f p = tt
 
 one_dropped : (n : ℕ) (l : List File) → length (drop n l) + 1 ≡ length l → drop n l ≡ drop 1 l
 one_dropped zero l fewer = absurd (omega (arith, fewer))

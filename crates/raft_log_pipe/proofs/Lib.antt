@@ -19,7 +19,7 @@ pub mod TornLemmas
 pub mod OthersLemmas
 pub mod UnreservedLemmas
 mod TrimLemmas
-mod PrefillLemmas
+pub mod PrefillLemmas
 pub mod TakenLemmas
 pub mod LostLemmas
 pub mod CausedLemmas

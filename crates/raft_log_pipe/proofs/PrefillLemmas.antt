@@ -192,7 +192,7 @@ module _ (p : SinglePipe) (d : Disk) (f : ReservedFile) (path : Text) (named : I
 
 -- ---- whether one can be made
 
-none_of : (o : Option ℕ) → not (is_some o) ≡ true → o ≡ None
+pub none_of : (o : Option ℕ) → not (is_some o) ≡ true → o ≡ None
 none_of None is = refl
 none_of (Some n) is = absurd cc
 
@@ -227,6 +227,6 @@ pub none_left : {X : Type 0} (xs : List X) → length xs ≡ 0 → xs ≡ []
 none_left [] is = refl
 none_left (x ∷ xs) is = absurd (omega (arith, is))
 
-pub ok_then : {T E : Type 0} (r : Result T E) (A B : Type 0) → (A → B) → OnOk r A → OnOk r B
-ok_then (Ok x) A B f a = f a
-ok_then (Err e) A B f a = tt
+pub ok_map : {T E : Type 0} (r : Result T E) (A B : Type 0) → (A → B) → OnOk r A → OnOk r B
+ok_map (Ok x) A B f a = f a
+ok_map (Err e) A B f a = tt

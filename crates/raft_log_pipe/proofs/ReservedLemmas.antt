@@ -86,7 +86,7 @@ says_none path id none some = let both : None ≡ Some id = sym none ∙ some in
 
 -- ---- names have no slash
 
-digits_slash : (text : Text) → list_all is_digit text ≡ true → has_slash text ≡ false
+pub digits_slash : (text : Text) → list_all is_digit text ≡ true → has_slash text ≡ false
 digits_slash [] all = refl
 digits_slash (b ∷ text) all =
     let parts = and_parts (is_digit b) (list_all is_digit text) all in

@@ -42,6 +42,7 @@ use Rattle.raft_log_pipe.proofs.NextLemmas.{header_short, path_at}
 use Rattle.raft_log_pipe.proofs.TakenLemmas.{named_there}
 use Rattle.raft_log_pipe.proofs.OthersLemmas.{below_next_name, found_there, one_path}
 use Rattle.raft_log_pipe.proofs.PipeLemmas.{file_beside, file_there}
+use Rattle.raft_log_pipe.proofs.PurgeLemmas.{same_number}
 use Rattle.raft_log_pipe.proofs.ReservedLemmas.{held_path, not_same, one_kept, one_number, reserved_no_log, reserved_says, says_none}
 
 -- ---- the next name is free
@@ -98,13 +99,10 @@ module _ (queue : LogQueue) (directories : List Text) (d e : Disk) (r : Reserved
     directories = ap (λ (y : Disk). y.directories) change;
   }
 
-same_some : (a b : ℕ) → (let x : Option ℕ = Some a in x ≡ Some b) → a ≡ b
-same_some a b is = cc
-
 -- it is found by its path
 pub opened_is : (queue : LogQueue) (directories : List Text) (d : Disk) (r : ReservedFile) (path : Text) (n : ℕ) → IsNamed d → (is : IsReserved queue directories d r) → path ≡ reserved_path directories r.path_id r.seq → fd_of d.names path ≡ Some n → n ≡ is.fd
 opened_is queue directories d r path n named is path_is found =
-    same_some n is.fd (sym found ∙ ap (fd_of d.names) path_is ∙ found_there d.names d.next (reserved_path directories r.path_id r.seq) is.fd named is.there)
+    same_number n is.fd (sym found ∙ ap (fd_of d.names) path_is ∙ found_there d.names d.next (reserved_path directories r.path_id r.seq) is.fd named is.there)
 
 pub is_there : (queue : LogQueue) (directories : List Text) (d : Disk) (r : ReservedFile) (path : Text) → IsNamed d → (is : IsReserved queue directories d r) → path ≡ reserved_path directories r.path_id r.seq → fd_of d.names path ≡ None → ⊥
 is_there queue directories d r path named is path_is none =

@@ -4,17 +4,13 @@ use Rattle.std.specs.Prelude.{◌↔◌}
 use Rattle.raft_log_records.specs.declared.file_id.LogQueue.{LogQueue}
 use Rattle.raft_log_covers.specs.Account.{IsFrom}
 use Rattle.raft_log_covers.specs.Trace.{least}
+use Rattle.raft_log_traces.proofs.FileLemmas.{least_from}
 use Rattle.raft_log_purge.specs.Listeners.{AllKeepFrom, IsLeastKept}
 
 from_least : (n : ℕ) (a b : Option ℕ) → IsFrom n (least a b) → IsFrom n a × IsFrom n b
 from_least n None b h = (tt, h)
 from_least n (Some f) None h = (h, tt)
 from_least n (Some f) (Some g) h = (omega (arith, h), omega (arith, h))
-
-to_least : (n : ℕ) (a b : Option ℕ) → IsFrom n a → IsFrom n b → IsFrom n (least a b)
-to_least n None b h i = i
-to_least n (Some f) None h i = h
-to_least n (Some f) (Some g) h i = omega (arith, h, i)
 
 last_keeps : {L : Type 0} (kept : L → LogQueue → Option ℕ) (queue : LogQueue) (n : ℕ) (ls : List L) (l : L) → AllKeepFrom kept queue n ls → IsFrom n (kept l queue) → AllKeepFrom kept queue n (ls ++ l ∷ [])
 last_keeps kept queue n [] l all here = (here, tt)
@@ -35,5 +31,5 @@ one_asked kept queue ls more l old new found e f g so_far n = (
       subst (λ x. AllKeepFrom kept queue n x) (sym e) (last_keeps kept queue n ls l ((so_far n).0 both.0) (subst (λ (o : Option ℕ). IsFrom n o) f both.1)),
   λ all.
       let both = all_keep kept queue n ls l (subst (λ x. AllKeepFrom kept queue n x) e all) in
-      subst (λ (o : Option ℕ). IsFrom n o) (sym g) (to_least n old found ((so_far n).1 both.0) (subst (λ (o : Option ℕ). IsFrom n o) (sym f) both.1)),
+      subst (λ (o : Option ℕ). IsFrom n o) (sym g) (least_from n old found ((so_far n).1 both.0) (subst (λ (o : Option ℕ). IsFrom n o) (sym f) both.1)),
 )

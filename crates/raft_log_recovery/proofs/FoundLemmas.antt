@@ -25,6 +25,7 @@ use Rattle.raft_log_recovery.specs.declared.scan.FileName.{FileName}
 use Rattle.raft_log_recovery.specs.Queue.{AreNumbered, IsFollowed}
 use Rattle.raft_log_recovery.specs.Scan.{AreFound, AreInDirectories, files_named, seq_at, seq_in, suffix_in}
 use Rattle.raft_log_pipe.proofs.AloneLemmas.{found_in, in_first, in_second}
+use Rattle.raft_log_pipe.proofs.ReservedLemmas.{digits_slash}
 use Rattle.raft_log_recovery.proofs.ScanLemmas.{named_so, some_suffix}
 
 -- ---- all of a list
@@ -112,15 +113,6 @@ found_numbered d kind directories count found le are =
     subst (AreNumbered count) (sym are.rest) (numbered_from count are.start are.sorted sorted are.last.run)
 
 -- ---- no file of the queue has a greater number
-
-no_digit : (b : ℕ) → is_digit b ≡ true → (b == 47) ≡ false
-no_digit b is = ne_eqb b 47 (λ e. absurd (omega (arith, ltb-true 47 b (and_parts (nat_lt 47 b) (nat_lt b 58) is).0, e)))
-
-digits_slash : (text : Text) → list_all is_digit text ≡ true → has_slash text ≡ false
-digits_slash [] all = refl
-digits_slash (b ∷ text) all =
-    let parts = and_parts (is_digit b) (list_all is_digit text) all in
-    λ i. no_digit b parts.0 i || digits_slash text parts.1 i
 
 suffix_slash : (kind : FileKind) → has_slash (suffix_in kind) ≡ false
 suffix_slash (Log Append) = refl

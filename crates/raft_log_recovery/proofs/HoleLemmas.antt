@@ -21,7 +21,7 @@ use Rattle.raft_log_pipe.specs.Others.{KeepsOthers}
 use Rattle.raft_log_pipe.specs.Pipe.{Holds, IsPipe, Numbered, id_of}
 use Rattle.raft_log_pipe.proofs.AloneLemmas.{in_first}
 use Rattle.raft_log_pipe.proofs.OthersLemmas.{named_beside}
-use Rattle.raft_log_pipe.proofs.PipeLemmas.{file_beside}
+use Rattle.raft_log_pipe.proofs.PipeLemmas.{file_beside, in_all}
 use Rattle.raft_log_recovery.specs.declared.scan.FileName.{FileName}
 use Rattle.raft_log_recovery.specs.Crashed.{HasHole}
 use Rattle.raft_log_recovery.specs.Holes.{HasBroken, HolesOnlyBroken}
@@ -31,12 +31,6 @@ use Rattle.raft_log_recovery.proofs.BesideLemmas.{HaveSame, bytes_same, file_sam
 use Rattle.raft_log_recovery.proofs.QueueLemmas.{in_middle, number_of}
 use Rattle.raft_log_recovery.proofs.RepairLemmas.{no_reading}
 use Rattle.raft_log_recovery.proofs.TailLemmas.{older_at}
-
--- what holds of each holds of one of them
-holds_at : {X : Type 0} (P : X → Type 0) (xs : List X) (x : X) → AllByRecursion P xs → IsIn x xs → P x
-holds_at P [] x all there = absurd there
-holds_at P (y ∷ ys) x all (inl is) = subst P (sym is) all.0
-holds_at P (y ∷ ys) x all (inr there) = holds_at P ys x all.1 there
 
 -- ---- the name of a file that others follow
 
@@ -95,10 +89,10 @@ tolerant TolerateAnyCorruption behind some never = refl
 pub holes_cut : (mode : RecoveryMode) (directories : List Text) (queue : LogQueue) (old mid new : Disk) (names : List FileName) (fs : List File) (p : SinglePipe) → AreRecovered directories queue old mid names fs → (AnyRefused mode directories queue names old → ⊥)
     → files_of p ≡ fs → IsPipe p new → Changes mid new p.active.handle.0 → HolesOnlyBroken mode directories queue names old new p
 holes_cut mode directories queue old mid new names fs p so passed files pipe change (f, inside, bare) =
-    let apart = holds_at (λ (g : File). (g.handle.0 < new.next) × (g.handle.0 ≢ p.active.handle.0)) p.older.items f pipe.apart inside in
+    let apart = in_all (λ (g : File). (g.handle.0 < new.next) × (g.handle.0 ≢ p.active.handle.0)) p.older.items f pipe.apart inside in
     let was : (mid.file f.handle.0).bytes ≡ [] = ap (λ (x : FileState). x.bytes) (sym (file_beside mid new p.active.handle.0 f.handle.0 change apart.1)) ∙ bare in
     let at = followed_file old directories queue names p.older.items p.active f (subst (AreOpen old directories queue names) (sym files) so.opened) inside in
-    let recovered : IsRecovered queue old mid f = holds_at (IsRecovered queue old mid) fs f so.each (subst (IsIn f) files (in_first f p.older.items (p.active ∷ []) inside)) in
+    let recovered : IsRecovered queue old mid f = in_all (IsRecovered queue old mid) fs f so.each (subst (IsIn f) files (in_first f p.older.items (p.active ∷ []) inside)) in
     let broken = recovered.blank was in (
       tolerant mode at.behind at.followed
           (λ kept. passed (at.before, at.name, at.behind, at.split, (f.handle.0, Header broken.0, at.stands.there, broken_fault (id_of queue at.name.seq) (old.file f.handle.0).bytes broken.0 broken.1, kept))),

@@ -32,7 +32,9 @@ use Rattle.raft_log_pipe.specs.Pipe.{AreOlder, IsOlder, Numbered, id_of}
 use Rattle.raft_log_pipe.specs.Stored.{IsEnded, IsStored}
 use Rattle.raft_log_pipe.specs.Torn.{IsTornAtEnd, IsUnaligned}
 use Rattle.raft_log_pipe.proofs.AloneLemmas.{in_second, stands_named}
+use Rattle.raft_log_pipe.proofs.BlockLemmas.{in_last}
 use Rattle.raft_log_pipe.proofs.PipeLemmas.{genuine_there, image_there, in_all}
+use Rattle.raft_log_pipe.proofs.PurgeLemmas.{same_number}
 use Rattle.raft_log_pipe.proofs.TornLemmas.{unsynced_plain}
 use Rattle.raft_log_recovery.specs.declared.scan.FileKind.TheVariants.{Log}
 use Rattle.raft_log_recovery.specs.declared.scan.FileName.{FileName}
@@ -157,12 +159,6 @@ older_at queue d [] bs f os there = absurd there
 older_at queue d (g ∷ fs) bs f (ks, rest, is, o, os) (inl same) = (ks, subst (λ (x : File). IsOlder queue d x ks) (sym same) o)
 older_at queue d (g ∷ fs) bs f (ks, rest, is, o, os) (inr there) = older_at queue d fs rest f os there
 
-in_last : (fs : List File) (f g : File) → IsIn f (fs ++ g ∷ []) → IsIn f fs ⊎ (f ≡ g)
-in_last [] f g (inl same) = inr same
-in_last [] f g (inr none) = absurd none
-in_last (x ∷ fs) f g (inl same) = inl (inl same)
-in_last (x ∷ fs) f g (inr there) = ⊎_elim (λ h. inl (inr h)) (λ h. inr h) (in_last fs f g there)
-
 module _ (p : SinglePipe) (d : Disk) (named : IsNamed d) (torn : IsTornAtEnd p d) (image : Image) (e made : Disk) (names : List FileName) (crashed : IsCrashed d image e) (makes : OnlyMakes (directories_of_pipe p) e made)
     (found : AreFound made (Log p.queue) (directories_of_pipe p) names) where
   abbrev directories : List Text
@@ -203,10 +199,7 @@ module _ (p : SinglePipe) (d : Disk) (named : IsNamed d) (torn : IsTornAtEnd p d
 
   -- the number of a file is that of its name
   one_number : (name : FileName) (fd gd : ℕ) → IsFileOf made directories p.queue name fd → IsFileOf made directories p.queue name gd → fd ≡ gd
-  one_number name fd gd one two = some_number fd gd (sym one ∙ two)
-    where
-      some_number : (a b : ℕ) → (let x : Option ℕ = Some a in x ≡ Some b) → a ≡ b
-      some_number a b is = cc
+  one_number name fd gd one two = same_number fd gd (sym one ∙ two)
 
   -- a file with a fault that others follow is a hole
   refused_hole : AnyRefused TolerateTailCorruption directories p.queue names made → HasLastingHole p d

@@ -16,6 +16,7 @@ use Rattle.raft_log_pipe.specs.Reserved.{IsReservedPath}
 use Rattle.raft_log_pipe.specs.Unreserved.{KeepsUnreserved}
 use Rattle.raft_log_pipe.proofs.AloneLemmas.{found_in, in_either, in_first}
 use Rattle.raft_log_pipe.proofs.OthersLemmas.{found_there}
+use Rattle.raft_log_pipe.proofs.PurgeLemmas.{same_number}
 use Rattle.raft_log_pipe.proofs.ReservedLemmas.{reserved_none, says_none}
 use Rattle.raft_log_pipes.specs.declared.pipes.DualPipes.{DualPipes}
 use Rattle.raft_log_pipes.specs.Pipes.{ArePipes, pipe_of}
@@ -74,9 +75,6 @@ hole_stays p mid new same between pipe (f, among, none) =
 
 -- ---- files that were found and opened
 
-one_number : (n m : ℕ) → (let x : Option ℕ = Some n in x ≡ Some m) → n ≡ m
-one_number n m e = cc
-
 -- one of them, by its name
 open_named : (directories : List Text) (queue : LogQueue) (d : Disk) (names : List FileName) (fs : List File) (name : FileName) (fd : ℕ) → AreOpen d directories queue names fs → IsIn name names → IsFileOf d directories queue name fd
     → (f : File) × IsIn f fs × (f.handle.0 ≡ fd)
@@ -84,7 +82,7 @@ open_named directories queue d [] fs name fd opened there of = absurd there
 open_named directories queue d (n ∷ names) fs name fd (f, rest, is, here, others) (inl same) of = (
   f,
   subst (λ (l : List File). IsIn f l) (sym is) (inl refl),
-  one_number f.handle.0 fd (sym here.there ∙ ap (λ (x : FileName). fd_of d.names (path_of directories queue x)) (sym same) ∙ of),
+  same_number f.handle.0 fd (sym here.there ∙ ap (λ (x : FileName). fd_of d.names (path_of directories queue x)) (sym same) ∙ of),
 )
 open_named directories queue d (n ∷ names) fs name fd (f, rest, is, here, others) (inr there) of =
     let found = open_named directories queue d names rest name fd others there of in

@@ -8,7 +8,7 @@ use Rattle.raft_log_pipe.specs.declared.pipe.SinglePipe.{SinglePipe}
 use Rattle.raft_log_pipe.specs.Prepared.{AreTrimmed, IsPreparedOf, LacksNumbers}
 use Rattle.raft_log_pipe.specs.Taken.{IsTakenBy}
 use Rattle.raft_log_pipe.proofs.CausedLemmas.{rises_then, told_io}
-use Rattle.raft_log_pipe.proofs.PrefillLemmas.{none_left, ok_then}
+use Rattle.raft_log_pipe.proofs.PrefillLemmas.{none_left, ok_map}
 use Rattle.raft_log_pipe.proofs.TakenLemmas.{no_space_large, taken_io}
 use Rattle.raft_log_pipe.proofs.TrimLemmas.{reserved_again, trim_alone, trim_holds, trimmed_front, trimmed_then}
 use Rattle.raft_log_pipe.proofs.UnreservedLemmas.{unreserved_then}
@@ -58,7 +58,7 @@ returns-in-Err-NoSpace-clause-made g c =
     let b = g.F.FileSystem.meter c.make_up.new.files in
     let z = g.F.FileSystem.meter c.trim_reserved-in-Err-NoSpace.new.files in
     let rises : Rises 1 a b = no_space_large (Unit {0}) ⊥ (Rises 1 a b) c.in-Err-NoSpace.field-0 c.in-Err-NoSpace.field-0-is one.cause in
-    ok_then result (length r.reserved.items ≡ min (length q.reserved.items) 0) (p.queue ≡ Append → IsPreparedOf r e c.args.wanted a z)
+    ok_map result (length r.reserved.items ≡ min (length q.reserved.items) 0) (p.queue ≡ Append → IsPreparedOf r e c.args.wanted a z)
     (λ is own. inr (inr (none_left r.reserved.items (omega (arith, is)), rises_then 1 0 a b z rises two.later.counts))) two.ok
 
 pub returns-in-Err-NoSpace-clause-gone : goal.returns-in-Err-NoSpace-clause-gone
@@ -72,7 +72,7 @@ returns-in-Err-NoSpace-clause-gone g c =
     let e = g.F.FileSystem.disk c.trim_reserved-in-Err-NoSpace.new.files in
     let result = c.trim_reserved-in-Err-NoSpace.result in
     let two = c.trim_reserved-in-Err-NoSpace.ensures in
-    ok_then result (AreTrimmed q r e) (AreTrimmed p r e)
+    ok_map result (AreTrimmed q r e) (AreTrimmed p r e)
     (trimmed_then p q r e e (ap (λ (x : SinglePipe). x.paths) one.same) (λ path none. none) (trimmed_front p q e one.front)) two.gone
 
 pub returns-in-Err-NoSpace-clause-unreserved : goal.returns-in-Err-NoSpace-clause-unreserved

@@ -4,7 +4,8 @@ use Rattle.std.specs.declared.alloc.Global.{Global}
 use Rattle.raft_log_disk.specs.Disk.{IsIn}
 use Rattle.raft_log_pipe.specs.declared.file.ReservedFile.{ReservedFile}
 use Rattle.raft_log_pipe.specs.Purging.{CanBeKept, IsKept, NamesNoOther}
-use Rattle.raft_log_pipe.proofs.KeepLemmas.{first_same, ok_map, went_kept}
+use Rattle.raft_log_pipe.proofs.KeepLemmas.{first_same, went_kept}
+use Rattle.raft_log_pipe.proofs.PrefillLemmas.{ok_map}
 use Rattle.raft_log_pipe.proofs.PurgeLemmas.{holds_all}
 use Rattle.raft_log_pipe.proofs.pipe.SinglePipe.purge_first.Goals as goal
 
