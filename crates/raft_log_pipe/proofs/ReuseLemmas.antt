@@ -163,7 +163,7 @@ module _ (p : SinglePipe) (d e g : Disk) (r : ReservedFile) (rs : List ReservedF
   own = ap (fd_of d.names) from_is ∙ found_there d.names d.next (reserved_path directories r.path_id r.seq) all.0.fd named all.0.there
 
   fd_is : renames.0 ≡ all.0.fd
-  fd_is = same_some renames.0 all.0.fd (sym renames.1 ∙ ap (λ (l : List (Text × ℕ)). fd_of l from) names_are ∙ own)
+  fd_is = same_number renames.0 all.0.fd (sym renames.1 ∙ ap (λ (l : List (Text × ℕ)). fd_of l from) names_are ∙ own)
 
   names_then : g.names ≡ moved d.names from to
   names_then = ap (λ (y : Disk). y.names) renames.2 ∙ ap (λ (l : List (Text × ℕ)). moved l from to) names_are
