@@ -6,3 +6,4 @@ pub mod TogetherLemmas
 pub mod StoredLemmas
 pub mod RewrittenAnew
 pub mod ToldLemmas
+pub mod HeardLemmas

@@ -10,3 +10,4 @@ pub mod Anew
 pub mod AnewLaws
 pub mod Together
 pub mod Listeners
+pub mod Heard

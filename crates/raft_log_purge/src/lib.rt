@@ -19,7 +19,7 @@ pub use choice::{Choice, GroupFacts, choice_of};
 pub use due::{QueueFiles, Rewritten, files_of, has_garbage, is_large};
 pub use going::{first_kept, let_go};
 pub use laws::{cleaning_steps_keep_queues, worked_marks};
-pub use listener::{EventListener, PurgeHook, least_kept, tell_gone, tell_new_file, tell_written};
+pub use listener::{EventListener, PurgeHook, least_kept, tell_gone, tell_new_file};
 pub use marking::{mark_anyway, mark_group, mark_groups};
 pub use reports::Reports;
 pub use rewriting::{rewrite_entries, rewrite_key};

@@ -1,34 +1,43 @@
 //! Whoever else keeps files of the log.
 
-ghost use Rattle.std.specs.Prelude.{◌≡◌, ◌≤◌, ◌<◌, ◌+◌, ℕ, Option};
-ghost use Rattle.raft_log_purge.specs.Listeners.{IsLeastKept, kept_by_hook, none_waits, waiting_at};
+ghost use Rattle.std.specs.Prelude.{◌≡◌, ◌≤◌, ◌<◌, ◌+◌, ◌∷◌, [], ℕ, Option};
+ghost use Rattle.raft_log_purge.specs.Heard.{Heard, HearAll};
+ghost use Rattle.raft_log_purge.specs.Heard.Heard.{Appended, Applied, Begun, Gone};
+ghost use Rattle.raft_log_purge.specs.Listeners.{IsLeastKept, heard_by_hook, kept_by_hook, none_waits, waiting_at};
 ghost use Rattle.raft_log_covers.specs.Trace.{least};
 ghost use Rattle.raft_log_records.specs.declared.file_id.LogQueue.{LogQueue};
 ghost use Rattle.raft_log_records.specs.declared.file_id.LogQueue.TheVariants.{Append, Rewrite};
 
 use raft_log_records::{FileBlockHandle, FileId, FileSeq, LogQueue};
 
-/// Hears of a log's files, and keeps some of them (raft-engine's `EventListener`). By default it hears
-/// nothing.
+/// Hears of a log's files, and keeps some of them (raft-engine's `EventListener`). Its
+/// `hears` says what it makes of what it hears.
 pub trait EventListener {
     /// The least file of a queue that it keeps.
     ghost kept: { Self → LogQueue → Option ℕ };
 
+    /// What it is once it heard something, where it was this before.
+    ghost hears: { Self → Heard → Self → Type 0 };
+
     /// A file is there: of a log that was opened each one, and later each new one.
-    fn post_new_log_file(&mut self, _id: FileId) {}
+    fn post_new_log_file(&mut self, id: FileId)
+        ensures heard { hears self.old (Begun id) self.new };
 
     /// A batch was appended to a file, as a record at this place.
-    fn on_append_log_file(&mut self, _handle: FileBlockHandle) {}
+    fn on_append_log_file(&mut self, handle: FileBlockHandle)
+        ensures heard { hears self.old (Appended handle) self.new };
 
     /// A batch that was appended to this file is in the memtables.
-    fn post_apply_memtables(&mut self, _id: FileId) {}
+    fn post_apply_memtables(&mut self, id: FileId)
+        ensures heard { hears self.old (Applied id) self.new };
 
     /// The least file of a queue that has to stay. None: all may go.
     fn first_file_not_ready_for_purge(&self, queue: LogQueue) -> Option<FileSeq>
         ensures { result ≡ kept self.now queue };
 
     /// The files of a queue up to this one are gone.
-    fn post_purge(&mut self, _id: FileId) {}
+    fn post_purge(&mut self, id: FileId)
+        ensures heard { hears self.old (Gone id) self.new };
 }
 
 /// The lesser of two files, if there is one.
@@ -54,24 +63,20 @@ pub fn least_kept<L: EventListener>(listeners: &[L], queue: LogQueue) -> Option<
 }
 
 /// Tells each listener that the files of a queue up to this one are gone.
-pub fn tell_gone<L: EventListener>(listeners: &mut [L], id: FileId) {
+pub fn tell_gone<L: EventListener>(listeners: &mut [L], id: FileId)
+    ensures told { HearAll L.hears (Gone id ∷ []) listeners.old listeners.new }
+{
     for listener in listeners.iter_mut() {
         listener.post_purge(id);
     }
 }
 
 /// Tells each listener of a new file.
-pub fn tell_new_file<L: EventListener>(listeners: &mut [L], id: FileId) {
+pub fn tell_new_file<L: EventListener>(listeners: &mut [L], id: FileId)
+    ensures told { HearAll L.hears (Begun id ∷ []) listeners.old listeners.new }
+{
     for listener in listeners.iter_mut() {
         listener.post_new_log_file(id);
-    }
-}
-
-/// Tells each listener of a batch that was appended, and then that it is in the memtables.
-pub fn tell_written<L: EventListener>(listeners: &mut [L], handle: FileBlockHandle) {
-    for listener in listeners.iter_mut() {
-        listener.on_append_log_file(handle);
-        listener.post_apply_memtables(handle.id);
     }
 }
 
@@ -101,7 +106,12 @@ impl PurgeHook {
 impl EventListener for PurgeHook {
     ghost kept = { kept_by_hook };
 
+    ghost hears = { heard_by_hook };
+
+    fn post_new_log_file(&mut self, _id: FileId) {}
+
     fn on_append_log_file(&mut self, handle: FileBlockHandle)
+        ensures heard { heard_by_hook self.old (Appended handle) self.new }
         ensures append { handle.id.queue ≡ Append → self.new ≡ waiting_at handle.id.seq self.old }
         ensures rewrite { handle.id.queue ≡ Rewrite → self.new ≡ self.old }
     {
@@ -112,6 +122,7 @@ impl EventListener for PurgeHook {
     }
 
     fn post_apply_memtables(&mut self, id: FileId)
+        ensures heard { heard_by_hook self.old (Applied id) self.new }
         ensures last { id.queue ≡ Append → self.old.waiting ≤ 1 → self.new ≡ none_waits }
         ensures others { id.queue ≡ Append → 1 < self.old.waiting → (self.new.least ≡ self.old.least) × (self.new.waiting + 1 ≡ self.old.waiting) }
         ensures rewrite { id.queue ≡ Rewrite → self.new ≡ self.old }
@@ -130,4 +141,6 @@ impl EventListener for PurgeHook {
             LogQueue::Rewrite => None,
         }
     }
+
+    fn post_purge(&mut self, _id: FileId) {}
 }

@@ -1,0 +1,6 @@
+use Rattle.raft_log_purge.specs.Heard.Heard.{Begun}
+use Rattle.raft_log_purge.proofs.HeardLemmas.{HaveHeard}
+use Rattle.raft_log_purge.proofs.listener.tell_new_file.Given as goal
+
+abbrev pub invariant-loop-listener : goal.invariant-loop-listener
+invariant-loop-listener g l = HaveHeard g.L.EventListener.hears (Begun l.id) l.listener-index l.fn.listeners l.listeners
