@@ -29,3 +29,4 @@ pub mod Cleaned
 pub mod Handed
 pub mod Barred
 pub mod KeptFiles
+pub mod HearingLemmas

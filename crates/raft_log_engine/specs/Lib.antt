@@ -16,3 +16,4 @@ pub mod Still
 pub mod Unopened
 pub mod Barred
 pub mod Listening
+pub mod Hearing

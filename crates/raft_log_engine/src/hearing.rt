@@ -1,17 +1,21 @@
 //! Listeners, who hear of writes and of files.
-ghost use Rattle.std.specs.Prelude.{◌≡◌, ◌++◌, ℕ, List, [], true, false, Err, IfErr, IfOk, OnOk, OnErr};
+ghost use Rattle.std.specs.Prelude.{◌≡◌, ◌⊎◌, ◌++◌, ◌∷◌, ℕ, List, [], true, false, Err, IfErr, IfOk, OnOk, OnErr};
 ghost use Rattle.raft_content_log.specs.Leaving.{AgreesElsewhere, IsWritten, LeavesElsewhere, MayBeWritten};
 ghost use Rattle.raft_log_disk.specs.Cause.{NothingRefuses, RefusesNoMore};
 ghost use Rattle.raft_log_engine.specs.Barred.{KeepsFound};
 ghost use Rattle.raft_log_engine.specs.Caused.{IsWriteFault};
+ghost use Rattle.raft_log_engine.specs.Hearing.{HearAppend, heard_files};
 ghost use Rattle.raft_log_engine.specs.Left.{IsSound, answers_on, leaves_on};
 ghost use Rattle.raft_log_engine.specs.Reopened.{OpensAs, OpensAsEither, OpensAsFront, OpensInTail, StandsAlone, StandsInTail, directories_of_engine};
 ghost use Rattle.raft_log_engine.specs.Since.{HasWritten, written_batch};
 ghost use Rattle.raft_log_engine.specs.Taken.{IsWriteTaken};
-ghost use Rattle.raft_log_engine.specs.declared.fault.EngineFault.TheVariants.{Stopped};
+ghost use Rattle.raft_log_engine.specs.declared.fault.EngineFault.TheVariants.{Log, Stopped};
 ghost use Rattle.raft_log_file.specs.Laws.{Batch};
+ghost use Rattle.raft_log_files.specs.declared.error.Error.TheVariants.{Memory};
 ghost use Rattle.raft_log_memtables.specs.Content.{Content, after_batch};
 ghost use Rattle.raft_log_pipes.specs.Kept.{KeepSettings};
+ghost use Rattle.raft_log_purge.specs.Heard.{HearAll, files_behind, files_within};
+ghost use Rattle.raft_log_purge.specs.Heard.Heard.{Appended, Applied};
 ghost use Rattle.raft_log_records.specs.Batch.{nothing_logged};
 ghost use Rattle.raft_log_records.specs.Spelling.{record_len};
 
@@ -31,32 +35,34 @@ fn skips_sync(before: bool, sync: bool) -> bool
     before || !sync
 }
 
-/// Tells listeners of the new files of a queue, in order: those behind the last one of before.
+/// Tells listeners of the new files of a queue, in order: those behind the last one of before, up to
+/// the last one.
 pub(crate) fn tell_begun<L: EventListener>(
     listeners: &mut [L],
     queue: LogQueue,
     before: FileSeq,
     last: FileSeq,
-) {
+)
+    ensures told { HearAll L.hears (files_behind queue before last) listeners.old listeners.new }
+{
     for seq in before..last {
         tell_new_file(listeners, FileId::new(queue, seq + 1));
     }
 }
 
 /// Tells listeners of each file of a queue, in order.
-fn tell_each<L: EventListener>(
-    listeners: &mut [L],
-    queue: LogQueue,
-    first: FileSeq,
-    last: FileSeq,
-) {
+fn tell_each<L: EventListener>(listeners: &mut [L], queue: LogQueue, first: FileSeq, last: FileSeq)
+    ensures told { HearAll L.hears (files_within queue first last) listeners.old listeners.new }
+{
     tell_new_file(listeners, FileId::new(queue, first));
     tell_begun(listeners, queue, first, last);
 }
 
 /// Tells listeners of a batch that was appended as a record at this place, and before it of the files
 /// that were begun for it, behind the last one of before.
-fn tell_appended<L: EventListener>(listeners: &mut [L], last: FileSeq, written: FileBlockHandle) {
+fn tell_appended<L: EventListener>(listeners: &mut [L], last: FileSeq, written: FileBlockHandle)
+    ensures told { HearAll L.hears (files_behind written.id.queue last written.id.seq ++ Appended written ∷ []) listeners.old listeners.new }
+{
     tell_begun(listeners, written.id.queue, last, written.id.seq);
     for listener in listeners.iter_mut() {
         listener.on_append_log_file(written);
@@ -64,7 +70,9 @@ fn tell_appended<L: EventListener>(listeners: &mut [L], last: FileSeq, written: 
 }
 
 /// Tells listeners that a batch which was appended to this file is in the memtables.
-fn tell_applied<L: EventListener>(listeners: &mut [L], id: FileId) {
+fn tell_applied<L: EventListener>(listeners: &mut [L], id: FileId)
+    ensures told { HearAll L.hears (Applied id ∷ []) listeners.old listeners.new }
+{
     for listener in listeners.iter_mut() {
         listener.post_apply_memtables(id);
     }
@@ -110,6 +118,10 @@ impl<F: FileSystem + Drop> Engine<F> {
         ensures later { RefusesNoMore (F.is_bounded self.old.files) (F.is_bounded self.new.files) (F.meter self.old.files) (F.meter self.new.files) }
         ensures taken { NothingRefuses (F.is_bounded self.old.files) (F.meter self.old.files) → IsWriteTaken F.disk self.old batch.old.items result }
         ensures cause { IfErr result (λ fault. IsWriteFault F.disk self.old batch.old.items (F.meter self.old.files) (F.meter self.new.files) fault) }
+        ensures heard { (batch.old.items ≡ [] → ⊥) → OnOk result (HearAppend L.hears F.disk batch.old.items (λ id. Applied id ∷ []) self.old self.new listeners.old listeners.new) }
+        ensures unheard { batch.old.items ≡ [] → listeners.new ≡ listeners.old }
+        ensures err_heard { IfErr result (λ fault. (listeners.new ≡ listeners.old)
+            ⊎ ((fault ≡ Log Memory) × HearAppend L.hears F.disk batch.old.items (λ id. []) self.old self.new listeners.old listeners.new)) }
     {
         if self.is_stopped {
             return Err(EngineFault::Stopped);
@@ -146,7 +158,9 @@ impl<F: FileSystem + Drop> Engine<F> {
     /// Tells listeners of each file of the engine, as of one that was opened (raft-engine's
     /// `post_new_log_file` for each file of an opened pipe): those of the append queue, in order, and then
     /// those of the rewrite queue.
-    pub fn tell_files<L: EventListener>(&self, listeners: &mut [L]) {
+    pub fn tell_files<L: EventListener>(&self, listeners: &mut [L])
+        ensures told { HearAll L.hears (heard_files self.now.pipes) listeners.old listeners.new }
+    {
         let (first, last) = self.pipes.file_span(LogQueue::Append);
         tell_each(listeners, LogQueue::Append, first, last);
         let (first, last) = self.pipes.file_span(LogQueue::Rewrite);

@@ -8,6 +8,7 @@ ghost use Rattle.raft_log_cleaner.specs.Told.{is_among, queue_of};
 ghost use Rattle.raft_log_cleaning.specs.declared.cleaning.Extent.TheVariants.{All};
 ghost use Rattle.raft_log_disk.specs.Cause.{RefusesNoMore};
 ghost use Rattle.raft_log_engine.specs.Barred.{IsBarred};
+ghost use Rattle.raft_log_engine.specs.Hearing.{heard_changes, heard_cleaning, span_of};
 ghost use Rattle.raft_log_engine.specs.Left.{IsSound, answers_on, leaves_on};
 ghost use Rattle.raft_log_engine.specs.Listening.{GoesToKept};
 ghost use Rattle.raft_log_engine.specs.Reopened.{OpensAs, OpensInTail, StandsAlone, StandsInTail, directories_of_engine};
@@ -17,6 +18,7 @@ ghost use Rattle.raft_log_memtables.specs.MemTables.{content_in};
 ghost use Rattle.raft_log_pipe.specs.Pipe.{first_of};
 ghost use Rattle.raft_log_pipes.specs.Kept.{KeepSettings};
 ghost use Rattle.raft_log_purge.specs.Due.{IsLarge};
+ghost use Rattle.raft_log_purge.specs.Heard.{HearAll, last_gone};
 ghost use Rattle.raft_log_purge.specs.Listeners.{AllKeepFrom};
 ghost use Rattle.raft_log_records.specs.declared.file_id.LogQueue.TheVariants.{Append, Rewrite};
 
@@ -35,7 +37,9 @@ fn tell_last<L: EventListener>(
     queue: LogQueue,
     before: FileSeq,
     behind: FileSeq,
-) {
+)
+    ensures told { HearAll L.hears (last_gone queue before behind) listeners.old listeners.new }
+{
     if before < behind {
         tell_gone(listeners, FileId::new(queue, behind - 1));
     }
@@ -48,7 +52,9 @@ fn tell_changes<L: EventListener>(
     pipes: &DualPipes,
     appends: (FileSeq, FileSeq),
     rewrites: (FileSeq, FileSeq),
-) {
+)
+    ensures told { HearAll L.hears (heard_changes appends rewrites (span_of pipes.now.append) (span_of pipes.now.rewrite)) listeners.old listeners.new }
+{
     let (first_append, last_append) = pipes.file_span(LogQueue::Append);
     let (first_rewrite, last_rewrite) = pipes.file_span(LogQueue::Rewrite);
     tell_begun(listeners, LogQueue::Append, appends.1, last_append);
@@ -88,6 +94,8 @@ impl<F: FileSystem + Drop> Engine<F> {
         ensures stopped { self.old.is_stopped ≡ true → result ≡ Err Stopped }
         ensures stops { OnErr result (self.new.is_stopped ≡ true) }
         ensures later { RefusesNoMore (F.is_bounded self.old.files) (F.is_bounded self.new.files) (F.meter self.old.files) (F.meter self.new.files) }
+        ensures heard { OnOk result (HearAll L.hears (heard_cleaning self.old.pipes self.new.pipes) listeners.old listeners.new) }
+        ensures unheard { OnErr result (listeners.new ≡ listeners.old) }
     {
         let barrier = least_kept(listeners, LogQueue::Append);
         let is_held = least_kept(listeners, LogQueue::Rewrite).is_some();
@@ -132,6 +140,8 @@ impl<F: FileSystem + Drop> Engine<F> {
         ensures barred { result ≡ Err Marked → IsBarred All self.old }
         ensures stops { IfErr result (λ fault. (fault ≡ Marked) ⊎ (self.new.is_stopped ≡ true)) }
         ensures later { RefusesNoMore (F.is_bounded self.old.files) (F.is_bounded self.new.files) (F.meter self.old.files) (F.meter self.new.files) }
+        ensures heard { OnOk result (HearAll L.hears (heard_cleaning self.old.pipes self.new.pipes) listeners.old listeners.new) }
+        ensures unheard { OnErr result (listeners.new ≡ listeners.old) }
     {
         let barrier = least_kept(listeners, LogQueue::Append);
         let appends = self.pipes.file_span(LogQueue::Append);

@@ -1,5 +1,7 @@
 //! What a listener hears of an engine, in order: over an opening, writes, and cleanings.
 
+ghost use Rattle.raft_log_engine_rows.specs.Noting.{IsNoted, heard_by_hearer};
+
 use crate::batches::batch_of;
 use crate::purging::opened;
 use crate::reopening::stopped;
@@ -31,7 +33,9 @@ struct Hearer {
 }
 
 impl Hearer {
-    fn note(&mut self, heard: Heard) {
+    fn note(&mut self, heard: Heard)
+        ensures { IsNoted heard self.old self.new }
+    {
         if self.heard.push(heard).is_err() {
             self.has_missed = true;
         }
@@ -42,6 +46,8 @@ impl EventListener for Hearer {
     ghost use Rattle.std.specs.Prelude.{None};
 
     ghost kept = { λ hearer queue. None };
+
+    ghost hears = { heard_by_hearer };
 
     fn post_new_log_file(&mut self, id: FileId) {
         self.note(Heard::New(id.queue, id.seq));

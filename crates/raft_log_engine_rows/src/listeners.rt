@@ -1,6 +1,6 @@
 //! Cleanings with listeners, who keep files and hear of those that went.
 
-ghost use Rattle.raft_log_engine_rows.specs.Keeping.{kept_by_keeper};
+ghost use Rattle.raft_log_engine_rows.specs.Keeping.{heard_by_keeper, kept_by_keeper};
 
 use crate::calls::Told;
 use raft_log_engine::{Engine, EngineFault};
@@ -20,6 +20,14 @@ struct Keeper {
 
 impl EventListener for Keeper {
     ghost kept = { kept_by_keeper };
+
+    ghost hears = { heard_by_keeper };
+
+    fn post_new_log_file(&mut self, _id: FileId) {}
+
+    fn on_append_log_file(&mut self, _handle: FileBlockHandle) {}
+
+    fn post_apply_memtables(&mut self, _id: FileId) {}
 
     fn first_file_not_ready_for_purge(&self, queue: LogQueue) -> Option<FileSeq> {
         match queue {

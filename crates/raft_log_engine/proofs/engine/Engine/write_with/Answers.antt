@@ -1,5 +1,5 @@
 -- What a write leaves, exit by exit.
-use Rattle.std.proofs.Common.{◌≡◌, ℕ, false, sym, ap, subst, ◌∙◌, inr}
+use Rattle.std.proofs.Common.{◌≡◌, ℕ, false, true, sym, ap, subst, ◌∙◌, inl, inr, refl}
 use Rattle.std.proofs.lemmas.Bool.{false≢true}
 use Rattle.std.specs.List.{list_any}
 use Rattle.raft_log_records.specs.Item.{items_of, with_lengths}
@@ -28,6 +28,7 @@ use Rattle.raft_log_engine.proofs.Caused.{failed_cause, refused_cause, stopped_c
 use Rattle.raft_log_engine.specs.Caused.{IsWriteFault}
 use Rattle.raft_log_engine.specs.declared.fault.EngineFault.{EngineFault}
 use Rattle.raft_log_pipe.proofs.CausedLemmas.{told_cause}
+use Rattle.raft_log_engine.proofs.HearingLemmas.{append_heard, if_err, write_heard}
 use Rattle.raft_log_engine.proofs.engine.Engine.write_with.Goals as goal
 
 pub returns-then-self-clause-opens_front : goal.returns-then-self-clause-opens_front
@@ -413,3 +414,78 @@ returns-clause-goes_on_in_tail g c =
       opens = more_in_tail (g.F.FileSystem.disk) (parts c.self.inside.files c.self.inside.pipes c.self.inside.traced.tables c.self.inside.is_stopped c.self.inside.wrote_unsynced c.self.inside.blocks.reads c.self.inside.traced c.self.inside.manager.purge_threshold) (c.self.invariant c.if-self.false).batches c.append_batch.new.files c.append_batch.new.pipes c.args.sync c.in-Ok.written.id.seq c.prepare.new.batch.items
           (met.is_named c.append_batch.new.files) stand c.in-Ok.ensures.other c.in-Ok.ensures.ok;
     })
+
+-- ---- what listeners hear
+
+pub returns-then-self-clause-heard : goal.returns-then-self-clause-heard
+returns-then-self-clause-heard g c = λ some. tt
+
+pub returns-then-self-clause-unheard : goal.returns-then-self-clause-unheard
+returns-then-self-clause-unheard g c = λ none. refl
+
+pub returns-then-self-clause-err_heard : goal.returns-then-self-clause-err_heard
+returns-then-self-clause-err_heard g c = inl refl
+
+pub returns-then-is_empty-clause-unheard : goal.returns-then-is_empty-clause-unheard
+returns-then-is_empty-clause-unheard g c = λ none. refl
+
+pub returns-then-sync-clause-unheard : goal.returns-then-sync-clause-unheard
+returns-then-sync-clause-unheard g c = λ none. refl
+
+pub returns-in_err-sync-clause-unheard : goal.returns-in_err-sync-clause-unheard
+returns-in_err-sync-clause-unheard g c = λ none. refl
+
+pub returns-in_err-sync-clause-err_heard : goal.returns-in_err-sync-clause-err_heard
+returns-in_err-sync-clause-err_heard g c = if_err c.from_residual.result (λ fault. inl refl)
+
+pub returns-in_err-len-clause-unheard : goal.returns-in_err-len-clause-unheard
+returns-in_err-len-clause-unheard g c = λ none. refl
+
+pub returns-in_err-len-clause-err_heard : goal.returns-in_err-len-clause-err_heard
+returns-in_err-len-clause-err_heard g c = if_err c.from_residual-in_err-len.result (λ fault. inl refl)
+
+pub returns-in-Err-clause-heard : goal.returns-in-Err-clause-heard
+returns-in-Err-clause-heard g c = λ some. tt
+
+pub returns-in-Err-clause-unheard : goal.returns-in-Err-clause-unheard
+returns-in-Err-clause-unheard g c = λ none. refl
+
+pub returns-in-Err-clause-err_heard : goal.returns-in-Err-clause-err_heard
+returns-in-Err-clause-err_heard g c = inl refl
+
+pub returns-in-Err-apply-clause-heard : goal.returns-in-Err-apply-clause-heard
+returns-in-Err-apply-clause-heard g c = λ some. tt
+
+pub returns-then-is_empty-clause-heard : goal.returns-then-is_empty-clause-heard
+returns-then-is_empty-clause-heard g c = λ some. absurd (some (c.is_empty.ensures.0 c.if-is_empty.true))
+
+pub returns-then-sync-clause-heard : goal.returns-then-sync-clause-heard
+returns-then-sync-clause-heard g c = λ some. absurd (some (c.is_empty.ensures.0 c.if-is_empty.true))
+
+pub returns-in-Err-apply-clause-unheard : goal.returns-in-Err-apply-clause-unheard
+returns-in-Err-apply-clause-unheard g c = λ none. absurd (false≢true (sym c.if-is_empty.false ∙ c.is_empty.ensures.1 none))
+
+pub returns-in-Err-apply-clause-err_heard : goal.returns-in-Err-apply-clause-err_heard
+returns-in-Err-apply-clause-err_heard g c =
+    let same : c.prepare.new.batch.items ≡ c.args.batch.now.items = c.in_ok-len.ensures.same in
+    let held = (c.self.invariant c.if-self.false).batches in
+    rw (← c.self.view_is, ← same) (inr (
+      c.in-Err-apply.ensures.err,
+      append_heard g.L.EventListener.hears g.F.FileSystem.disk (parts c.self.inside.files c.self.inside.pipes c.self.inside.traced.tables c.self.inside.is_stopped c.self.inside.wrote_unsynced c.self.inside.blocks.reads c.self.inside.traced c.self.inside.manager.purge_threshold)
+          (parts c.append_batch.new.files c.append_batch.new.pipes c.apply.new.traced.tables true c.self.inside.wrote_unsynced c.self.inside.blocks.reads c.apply.new.traced c.self.inside.manager.purge_threshold)
+          c.prepare.new.batch.items c.in-Ok.written c.file_span-last.result.1 c.file_span-last.ensures.last held.synced held.unsynced held.held.append c.append_batch.new.pipes.appends c.in-Ok.ensures.stands
+          c.args.listeners.now c.tell_appended.new.listeners c.tell_appended.ensures.told,
+    ))
+
+pub returns-clause-unheard : goal.returns-clause-unheard
+returns-clause-unheard g c = λ none. absurd (false≢true (sym c.if-is_empty.false ∙ c.is_empty.ensures.1 none))
+
+pub returns-clause-heard : goal.returns-clause-heard
+returns-clause-heard g c =
+    let same : c.prepare.new.batch.items ≡ c.args.batch.now.items = c.in_ok-len.ensures.same in
+    let held = (c.self.invariant c.if-self.false).batches in
+    rw (← c.self.view_is, ← same) (λ some.
+    write_heard g.L.EventListener.hears g.F.FileSystem.disk (parts c.self.inside.files c.self.inside.pipes c.self.inside.traced.tables c.self.inside.is_stopped c.self.inside.wrote_unsynced c.self.inside.blocks.reads c.self.inside.traced c.self.inside.manager.purge_threshold)
+    (parts c.append_batch.new.files c.append_batch.new.pipes c.apply.new.traced.tables c.self.inside.is_stopped c.skips_sync-self-inside.result c.self.inside.blocks.reads c.apply.new.traced c.self.inside.manager.purge_threshold)
+    c.prepare.new.batch.items c.in-Ok.written c.file_span-last.result.1 c.file_span-last.ensures.last held.synced held.unsynced held.held.append c.append_batch.new.pipes.appends c.in-Ok.ensures.stands
+    c.args.listeners.now c.tell_appended.new.listeners c.tell_applied.new.listeners c.tell_appended.ensures.told c.tell_applied.ensures.told)
