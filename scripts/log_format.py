@@ -1,5 +1,7 @@
-"""The format of log files, apart from the crates: headers and records, written and judged."""
+"""The format of log files, apart from the crates: headers and records, written and judged; and the
+sections of rows that scripts write of them."""
 import struct
+import sys
 import zlib
 
 MAGIC = b"RAFT-LOG-FILE-HEADER-9986AB3E47F320B394C8E84916EB0ED5"
@@ -167,3 +169,55 @@ def walk(text, version, alignment, seq):
         batches.append((at, size, at + 8, offset - 8, count))
         at += size
     return batches, at, None
+
+
+# ---- sections of rows
+
+FOLDER = "crates/raft_log_rows"
+MARK = "# ===="
+
+
+def word(text):
+    """Bytes as a word of a row."""
+    return '"' + "".join(chr(b) if chr(b).isalnum() and b < 128 else f"\\x{b:02x}" for b in text) + '"'
+
+
+def shown(text):
+    """Bytes as an answer prints them."""
+    named = {9: "\\t", 10: "\\n", 13: "\\r", 34: '\\"', 39: "\\'", 92: "\\\\"}
+    return '"' + "".join(named.get(b, chr(b) if 32 <= b < 127 else f"\\x{b:02x}") for b in text) + '"'
+
+
+def with_files(files):
+    """Rows that make these files, each a name and bytes, in the directory `main` of an empty disk."""
+    yield "directory main", "Ok(())"
+    for number, (name, text) in enumerate(files, 1):
+        yield f"make main/{name}", f"Ok(Fd({number}))"
+        yield f"write {number} 0 {word(text)}", "Ok(())"
+        yield f"sync {number}", "Ok(())"
+
+
+def with_section(text, name, lines):
+    """A text in which the section of this name, up to the next one, has these lines."""
+    front, mark, rest = text.partition(f"{MARK} {name}\n")
+    if not mark:
+        sys.exit(f"there is no section {name}")
+    _, next_mark, back = rest.partition(f"\n{MARK}")
+    return front + mark + "".join(f"{it}\n" for it in lines) + next_mark + back
+
+
+def settle(name, rows):
+    """Writes the section of this name: rows, each a call and its answer; without one a line as it is. With --check writes nothing, and
+    fails where the files are otherwise."""
+    calls = [call.rstrip("# ") if answer is None and call == "# " else call for call, answer in rows]
+    told = [call if answer is None else f"{call} -> {answer}" for call, (_, answer) in zip(calls, rows)]
+    for path, lines in [(f"{FOLDER}/stdin", calls), (f"{FOLDER}/stdout", told)]:
+        with open(path, encoding="utf-8") as file:
+            text = file.read()
+        wanted = with_section(text, name, lines)
+        if wanted != text and "--check" in sys.argv[1:]:
+            sys.exit(f"{path} is otherwise")
+        if wanted != text:
+            with open(path, "w", encoding="utf-8") as file:
+                file.write(wanted)
+    print(sum(answer is not None for _, answer in rows), "rows")

@@ -21,7 +21,7 @@ class Edit:
         with open(file, encoding="utf-8") as it:
             text = it.read()
         self.pairs, self.fault = _pairs(text)
-        self.functions = tuple(re.findall(r"(?m)^only: *(\S+)", text))
+        self.only = self.functions = tuple(re.findall(r"(?m)^only: *(\S+)", text))
         # The functions whose bodies it turns, or none where it turns something else too.
         self.bodies = ()
         # Whether it is enough that one of its functions is refused.

@@ -1,7 +1,12 @@
 """The kit's own scripts, which know how a crate is checked, and what try_edits asks of them."""
+import collections
+import functools
+import glob
 import importlib.machinery
 import importlib.util
+import json
 import os
+import re
 import subprocess
 import sys
 
@@ -39,6 +44,40 @@ def _remembered_stamp(crate):
 
 
 rtlib.Crate.stamp = _remembered_stamp
+_below, _belows = rtlib.Crate.below, {}
+
+
+def _remembered_below(crate):
+    """The libraries below a crate, which the kit finds anew along each path down."""
+    if crate.folder not in _belows:
+        _belows[crate.folder] = _below(crate)
+    return [*_belows[crate.folder]]
+
+
+rtlib.Crate.below = _remembered_below
+
+# A token of code: its line, its first byte and the byte behind it, its kind and its text.
+Token = collections.namedtuple("Token", "line first end kind text")
+
+
+@functools.lru_cache(None)
+def tokens(folder):
+    """Returns the tokens of each .rt file below src/, without comments, and the file's bytes."""
+    paths = sorted(glob.glob(f"{glob.escape(folder)}/src/**/*.rt", recursive=True))
+    words = [rtlib.RATTLE, "fmt", "--tokens", *paths]
+    said = subprocess.run(words, capture_output=True, encoding="utf-8", check=True).stdout if paths else ""
+    found = {}
+    for path, rows in zip(paths, re.split(r"(?m)^file \d+\n", said)[1:]):
+        rows = [it.split(" ", 4) for it in rows.split("\n") if it]
+        # (most texts have nothing that JSON would write otherwise)
+        said = lambda it: json.loads(it) if "\\" in it else it[1:-1]
+        its = [Token(int(a), int(b), int(c), kind, said(it)) for a, b, c, kind, it in rows]
+        with open(path, "rb") as it:
+            found[os.path.relpath(path, folder)] = its, it.read()
+    return found
+
+
+_bodies.Source.tokens = lambda source, file: tokens(source.folder)[file]
 
 
 def crates(top):
@@ -62,10 +101,12 @@ def _is_of_ci(crate):
 
 def build_below(crate, after_ci):
     """Builds the libraries below the crate where they aren't. after_ci: whether rt ci has just passed
-    here, so that what it built serves. Returns what went wrong, or None."""
+    here, so that what it built serves, and nothing is built anew. Returns what went wrong, or None."""
     for it in crate.below():
         if it.is_built() or after_ci and _is_of_ci(it):
             continue
+        if after_ci:
+            return f"the library {it.name} isn't there as rt ci leaves it"
         print(f"building the library {it.name}", flush=True)
         how = {"cwd": it.folder, "stdin": subprocess.DEVNULL, "stdout": subprocess.PIPE}
         how |= {"stderr": subprocess.STDOUT, "text": True, "errors": "replace"}

@@ -1,85 +1,81 @@
-"""The file scripts/edits/TRIED: for each crate whose edits were all refused, the sum of what that
-rests on."""
-import functools
+"""The file scripts/edits/TRIED: the sum of what each edit's refusal rests on, and the turn."""
 import hashlib
 import os
 import re
+import subprocess
 
-import kit
-
-# Raise this where the way in which edits are judged changes, so that all are tried anew.
-FORM = 2
-COMMENT = re.compile(rb"(?m)^[ \t]*(//|-- ).*\n")
-
-
-def _text(file):
-    with open(file, "rb") as it:
-        return it.read()
-
-
-def _of_file(folder, file, text):
-    """Returns the file's name and text as one."""
-    return repr((os.path.relpath(file, folder), text)).encode()
+HEAD = (
+    "# A line for each edit that was refused, with the sum of what that rests on, or a dash where it\n"
+    "# has to be tried (scripts/try_edits writes it). The turn says which twentieth is tried again.\n"
+)
+TURNS = 20
+TURN = re.compile(r"(?m)^turn (\d+)$")
+REFUSED = re.compile(r"(?m)^(\w+) refused: (.*)$")
+LEFT = re.compile(r"(?m)^(\w+) left: (.*)$")
 
 
-def _unseen(functions, text):
-    """Returns the places in a file's text of what no caller's proof reads: bodies, and functions of
-    the crate's own. A law has no body, and a constant function's may be computed with."""
-    for f in functions:
-        is_constant = re.search(rb"\bconst\s*$", text[f.first : f.start])
-        if not f.is_pub:
-            yield f.first, f.end
-        elif f.has_body and text[f.opens : f.end].strip(b"{} \n") and not is_constant:
-            yield f.opens, f.end
+def turn_of(name):
+    """Returns the turn in which an edit is tried again though nothing that it rests on changed."""
+    return int.from_bytes(hashlib.sha256(name.encode()).digest()[:4], "big") % TURNS
 
 
-@functools.lru_cache(None)
-def _seen_above(crate):
-    """Returns what the crates above see of the crate: its contracts and definitions. Proofs and
-    bodies are left out: a wrong body stays wrong whatever else is proved of what it calls."""
-    found, functions = b"", kit.functions(crate)[0]
-    for file in kit.rtlib.files_of(crate.folder):
-        if os.path.relpath(file, crate.folder).startswith("proofs/"):
-            continue
-        text, here = _text(file), [f for f in functions if f"{crate.folder}/{f.file}" == file]
-        for first, end in sorted(_unseen(here, text), reverse=True):
-            text = text[:first] + b";" + text[end:]
-        found += _of_file(crate.folder, file, COMMENT.sub(b"", text))
-    return found
-
-
-def sum_of(crate, folder):
-    """Returns a sum of the crate's sources and edits, of what it sees of the libraries below it,
-    and of the kit's logic. The kit's letter is left out: its tools change with it, not what is true."""
-    made = hashlib.sha256(repr((FORM, kit.IDENTITY.partition(" ")[2])).encode())
-    for it in [*crate.below(), crate]:
-        uses = sorted(dep.name for dep in it.deps)
-        made.update(repr((it.name, uses, sorted(it.of_kit))).encode())
-        if it is not crate:
-            made.update(_seen_above(it))
-    for file in kit.rtlib.files_of(crate.folder):
-        made.update(_of_file(crate.folder, file, _text(file)))
-    for it in sorted(it for it in os.listdir(folder) if it.endswith(".edit")):
-        made.update(_of_file(folder, f"{folder}/{it}", _text(f"{folder}/{it}")))
-    return made.hexdigest()[:32]
+def next_turn(file):
+    """Returns the turn of what is to land: the one behind that of the last landing, by git."""
+    folder, name = os.path.split(file)
+    for commit in ("origin/main", "HEAD"):
+        words = ["git", "-C", folder, "show", f"{commit}:./{name}"]
+        said = subprocess.run(words, capture_output=True, text=True)
+        if said.returncode == 0:
+            found = TURN.search(said.stdout)
+            return (int(found[1]) + 1) % TURNS if found else 0
+    return 0
 
 
 class Tried:
-    """The recorded sums, which are written as they change."""
+    """The recorded sums by the edits' names, which are written as they change."""
 
     def __init__(self, file):
-        self.file, self.sums = file, {}
+        self.file, self.sums, self.turn = file, {}, next_turn(file)
         if os.path.isfile(file):
             with open(file, encoding="utf-8") as it:
-                rows = [line.split() for line in it if line.strip() and line[0] != "#"]
+                rows = [line.split() for line in it if "/" in line and line[0] != "#"]
             self.sums = {row[0]: row[1] for row in rows if len(row) == 2}
 
-    def set(self, name, made):
-        """Notes the crate's sum, or a dash where an edit wasn't refused."""
-        self.sums[name] = made
+    def stands(self, name, made):
+        """Returns whether the edit was refused as it stands."""
+        return made is not None and self.sums.get(name) == made
+
+    def is_first(self, name):
+        """Returns whether the edit was left, or not refused, or never tried: such come first."""
+        return self.sums.get(name, "-") == "-"
+
+    def place(self, name):
+        """Returns the edit's place among those that are tried in this turn. The last quarter of one turn is
+        the first of the next, since a clock may have left it and nobody noted that."""
+        return not self.is_first(name), (turn_of(name) + self.turn * TURNS // 4) % TURNS, name
+
+    def note(self, sums, names=None):
+        """Notes these edits' sums, or dashes. names: all edits that there are, so that others go."""
+        self.sums |= {name: made or "-" for name, made in sums.items()}
+        if names is not None:
+            self.sums = {name: made for name, made in self.sums.items() if name in names}
         draft = f"{self.file}.new"
         with open(draft, "w", encoding="utf-8") as it:
-            it.write("# Crates whose edits were all refused, with the sum of what that rests on")
-            it.write(" (scripts/try_edits writes it).\n")
+            it.write(f"{HEAD}turn {self.turn}\n")
             it.writelines(f"{name} {self.sums[name]}\n" for name in sorted(self.sums))
         os.replace(draft, self.file)
+
+
+def lines_of(crate, refused, left):
+    """Returns what a run says of a crate's edits, so that another one can note it. refused: their sums."""
+    said = " ".join(f"{name.partition('/')[2]}={made}" for name, made in refused.items())
+    rest = " ".join(name.partition("/")[2] for name in left)
+    lines = {f"{crate} refused: {said}": said, f"{crate} left: {rest}": rest}
+    return [line for line, names in lines.items() if names]
+
+
+def said_in(text):
+    """Returns the sums of the edits that a run has refused, and the names of those that it left."""
+    said = [(crate, it.split("=")) for crate, its in REFUSED.findall(text) for it in its.split()]
+    refused = {f"{crate}/{it[0]}": it[1] for crate, it in said if len(it) == 2}
+    return refused, [f"{crate}/{name}" for crate, its in LEFT.findall(text) for name in its.split()]

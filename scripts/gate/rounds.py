@@ -12,7 +12,9 @@ import shutil
 import subprocess
 import tempfile
 import threading
+import time
 
+from clock import Clock
 from kit import rt, rtlib
 
 GOAL = re.compile(r"note: src/\S+:\d+:\d+: it is not proved that ")
@@ -80,6 +82,9 @@ class Ran:
             told = told or [f"the check ended early, with status {self.status}"]
         return told[0][:300] if told else None
 
+    def was_killed(self):
+        return self.status < 0 or self.status == 137
+
     def lost(self):
         """Returns the function that was asked for and that the check doesn't know, or None."""
         why = r"has no function `([^`]*)`|several functions are named `([^`]*)`"
@@ -87,9 +92,9 @@ class Ran:
         return found and (found[1] or found[2])
 
 
-def check(crate, texts, only, as_source=False):
-    """Checks these functions of a copy of the crate that has these texts in place of its own. As
-    source the libraries below needn't be built."""
+def check(crate, texts, only, as_source=False, seconds=None):
+    """Checks these functions of a copy of the crate that has these texts in place of its own, for so
+    many seconds at most. As source the libraries below needn't be built."""
     with tempfile.TemporaryDirectory(prefix="try-edits-") as room:
         for part in rtlib.PARTS:
             if os.path.isdir(f"{crate.folder}/{part}"):
@@ -103,7 +108,11 @@ def check(crate, texts, only, as_source=False):
         with tempfile.TemporaryFile("w+", errors="replace") as said:
             how = {"stdin": subprocess.DEVNULL, "stdout": said, "stderr": subprocess.STDOUT}
             ran = subprocess.Popen([*rtlib.guarded(), *words], cwd=room, **how)
+            ender = threading.Timer(seconds or threading.TIMEOUT_MAX, ran.kill)
+            ender.daemon = True
+            ender.start()
             _, status, used = os.wait4(ran.pid, 0)
+            ender.cancel()
             ran.returncode = os.waitstatus_to_exitcode(status)
             said.seek(0)
             return Ran(ran.returncode, said.read(), used.ru_utime + used.ru_stime)
@@ -112,15 +121,16 @@ def check(crate, texts, only, as_source=False):
 class Tries:
     """The edits of one crate, and what became of each."""
 
-    def __init__(self, crate, edits, check=check, reach=None):
-        self.crate, self.edits, self._check = crate, edits, check
+    def __init__(self, crate, edits, check=check, reach=None, clock=None):
+        self.crate, self.edits, self._check, self.clock = crate, edits, check, clock or Clock()
         # Of an edit of definitions that can stand beside others: what its laws reach, what it turns.
         self.reaches = {}
         for it in edits if reach else ():
             reached, turned = reach.of(it), reach.touched(it)
             if not it.bodies and not it.fault and reached and turned:
                 self.reaches[it] = reached, turned
-        self.refused, self.failed = [], {}
+        # Those that the clock left no time for are neither refused nor failed.
+        self.refused, self.failed, self.left = [], {}, []
         self.seconds, self.checks = 0.0, 0
         self._counting = threading.Lock()
 
@@ -129,26 +139,40 @@ class Tries:
         for it in self.rounds():
             self.round(it)
 
-    def rounds(self):
+    def rounds(self, later=()):
         """Returns the edits in as few rounds as their functions allow, which may be tried side by
-        side. Those that can't be made are noted as failed."""
+        side, behind them those of the later ones. Those that can't be made are noted as failed."""
         for it in self.edits:
             if it.fault:
                 self.failed[it] = f"can't be made: {it.fault}"
             elif not it.functions:
                 self.failed[it] = "turns no body: name what must be refused by a line only:"
-        found, left = [], [it for it in self.edits if it not in self.failed]
-        while left:
-            found.append(first_round(left, self.reaches))
-            left = [it for it in left if it not in found[-1]]
+        found, later = [], {*later}
+        for is_later in (False, True):
+            left = [it for it in self.edits if it not in self.failed and (it in later) == is_later]
+            while left:
+                found.append(first_round(left, self.reaches))
+                left = [it for it in left if it not in found[-1]]
         if self.crate:
             shutil.rmtree(f"{self.crate.folder}/out/edits", ignore_errors=True)
         return found
 
     def round(self, edits):
+        """Tries these edits at once, where the clock lets a round begin."""
+        if self.clock.is_past():
+            self.left += edits
+        else:
+            self.part(edits)
+
+    def part(self, edits):
         """Tries these edits at once, and in smaller parts where the check doesn't end."""
+        if not self.clock.has_room(number_of(edits)):
+            self.left += edits
+            return
         ran, texts = self.checked(edits)
-        if ran.is_stale:
+        if ran.was_killed() and self.clock.is_over():
+            self.left += edits
+        elif ran.is_stale:
             why = "was not tried: a library below isn't built as it stands"
             self.failed.update(dict.fromkeys(edits, why))
         elif ran.unread(texts):
@@ -165,7 +189,7 @@ class Tries:
             if any(refused) if it.takes_any else all(refused):
                 self.refused.append(it)
             elif len(edits) > 1:
-                self.round([it])
+                self.part([it])
             else:
                 whys = [why for well, why in said if not well][:3]
                 self.failed[it] = f"is NOT REFUSED: {'; '.join(whys)}"
@@ -193,10 +217,10 @@ class Tries:
             return
         half = 0 if lost else len(rest) // 2
         for some in filter(None, (rest[:half], rest[half:])):
-            self.round(some)
+            self.part(some)
 
     def why_not_tried(self, ran, texts):
-        if ran.status < 0 or ran.status == 137:
+        if ran.was_killed():
             return f"was not tried: its check was killed ({ran.status})"
         return f"doesn't read, so no contract was tried: {ran.unread(texts)}"
 
@@ -205,7 +229,9 @@ class Tries:
         for it in edits:
             texts, _ = it.made(texts)
         only = dict.fromkeys(name for it in edits for name in it.functions)
-        ran = self._check(self.crate, texts, only)
+        began = time.monotonic()
+        ran = self._check(self.crate, texts, only, seconds=self.clock.left())
+        self.clock.took(number_of(edits), time.monotonic() - began)
         with self._counting:
             self.seconds, self.checks = self.seconds + ran.seconds, self.checks + 1
             number = self.checks
@@ -219,6 +245,11 @@ class Tries:
             os.makedirs(folder, exist_ok=True)
             with open(f"{folder}/{number}.txt", "w", encoding="utf-8") as it:
                 it.write("\n".join(["edits: " + " ".join(e.name for e in edits), *ran.lines, ""]))
+
+
+def number_of(edits):
+    """Returns how many functions a check of these edits goes over."""
+    return len({name for it in edits for name in it.functions})
 
 
 def first_round(edits, reaches):

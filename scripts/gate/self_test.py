@@ -6,7 +6,10 @@ import tempfile
 import edits
 import kit
 import reach
+import record
 import rounds
+import sums_test
+from clock import Clock
 
 SOURCE = """//! A tiny crate.
 #![tactic(auto)]
@@ -152,7 +155,7 @@ def without_it():
     }
     wrong = []
     for case, (check, wanted) in cases.items():
-        tries = rounds.Tries(None, [_Edit(it) for it in "xyz"], lambda _, __, only: check(only))
+        tries = rounds.Tries(None, [_Edit(it) for it in "xyz"], lambda _, __, only, **___: check(only))
         tries.run()
         whys = list(tries.failed.values())
         well = len(whys) == 3 * bool(wanted) and len(tries.refused) == 3 - len(whys)
@@ -161,8 +164,48 @@ def without_it():
     return wrong
 
 
+def by_the_clock():
+    """Returns what is wrong where time runs out: two edits of one function, which are two rounds of ten
+    minutes each, behind so many minutes; and how many of them are refused."""
+    wrong = []
+    for minutes, wanted in {0: 2, 129: 2, 131: 1, 139: 1, 140: 0, 141: 0, 164.9: 0}.items():
+        now = [minutes * 60]
+
+        def check(_, __, only, **___):
+            now[0] += 600
+            return rounds.Ran(1, "".join(map(REFUSAL.format, only)) + "only=1 proved=0\n", 0)
+
+        tries = rounds.Tries(None, [_Edit("x"), _Edit("x")], check, clock=Clock(0, lambda now=now: now[0]))
+        tries.run()
+        found = len(tries.refused), len(tries.left), len(tries.failed)
+        if found != (wanted, 2 - wanted, 0):
+            wrong.append(f"behind {minutes} minutes refused, left, failed are {found}")
+    slow = Clock(0, lambda: 139 * 60)
+    had_room = slow.has_room(20)
+    slow.took(20, 3000)
+    if not had_room or slow.has_room(20) or slow.has_room(1000):
+        wrong.append("a check is begun that can't be expected to end")
+    return wrong
+
+
+def of_the_record(top):
+    """Returns what is wrong in how a run's words are noted."""
+    said = record.lines_of("a", {"a/x": "1f", "a/y": "2e"}, ["a/z"])
+    if record.said_in("\n".join(["other words", *said])) != ({"a/x": "1f", "a/y": "2e"}, ["a/z"]):
+        return [f"what a run says can't be read: {said}"]
+    noted = {"a/x": "1f", "a/y": "2e", "a/z": None, "a/gone": "3d"}
+    record.Tried(f"{top}/TRIED").note(noted, {"a/x", "a/y", "a/z"})
+    tried = record.Tried(f"{top}/TRIED")
+    now = {"a/x": "1f", "a/y": "3d", "a/z": "1f", "a/gone": "3d"}
+    stand = [it for it, made in now.items() if tried.stands(it, made)]
+    first = {*sorted(["a/x", "a/y", "a/z", "a/new"], key=tried.place)[:2]}
+    is_well = stand == ["a/x"] and first == {"a/z", "a/new"}
+    return [] if is_well else [f"of TRIED stand {stand}, first are {first}"]
+
+
 def run():
     """Returns what is wrong in how edits are told, and the seconds of one core that it took."""
     with tempfile.TemporaryDirectory(prefix="try-edits-self-test-") as top:
         wrong, seconds = with_the_prover(top)
-        return without_it() + wrong, seconds
+        wrong += without_it() + by_the_clock() + of_the_record(top) + sums_test.wrong()
+        return wrong, seconds

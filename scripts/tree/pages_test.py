@@ -54,6 +54,7 @@ FILES = "| File | What it defines |\n|---|---|\n"
 TREE = {
     "crates.txt": "# floors\nraft_low:\nraft_chest: raft_low thiserror\nraft_chest_rows: raft_chest\n",
     "README.md": "# Top\n\n[arch](docs/ARCHITECTURE.md#the-crates), scripts/edits and `scripts/edits/CRATE`.\n",
+    "docs/GATE.md": "# Gate\n\n| Crate | proof |\n|---|---|\n| raft_gone | 1.0 |\n",
     "docs/GUIDE.md": "# Guide\n\n`1 open -> open`\n\n```rust\nfn lid() {}\n```\n",
     "docs/ARCHITECTURE.md": f"# Plan\n\n## The crates\n\n{LAYERS}| raft_chest | chests | raft_low | yes |\n\n"
                             f"{FILES}| raft_chest/specs/Chest | `IsOpen`, `lid_there` |\n",

@@ -6,7 +6,7 @@ use raft_state::{KeptVec, LogId, Vote};
 use std::alloc::Global;
 
 /// How far a node has come with a group, and who waits to be told (own).
-#[derive(Debug, Drop)]
+#[derive(Drop)]
 pub struct Applied {
     /// The log id of the last entry that the machine has run, if it has run one.
     pub last: Option<LogId<u64>>,
@@ -17,7 +17,7 @@ pub struct Applied {
 }
 
 /// What became of tokens in an event (own).
-#[derive(Debug, Drop)]
+#[derive(Drop)]
 pub struct Progress {
     /// The tokens that are told, by rising place.
     pub told: Vec<Told>,

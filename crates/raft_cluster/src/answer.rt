@@ -4,7 +4,7 @@ use raft_cluster_conditions::ClusterRefusal;
 use raft_cluster_events::{NodeError, NodeOutcome, Sequence, Stop};
 
 /// What a node answered to an event that came to it. Its frames aren't sent yet.
-#[derive(Debug, Drop)]
+#[derive(Drop)]
 pub enum Answer {
     /// To an event of one of its groups.
     OfGroup(Result<Option<NodeOutcome>, NodeError>),

@@ -17,7 +17,7 @@ pub enum NodeStanding {
 }
 
 /// What an event asks of a cluster (own).
-#[derive(Clone, Copy, Debug, PartialEq, Eq)]
+#[derive(Clone, Copy, PartialEq, Eq)]
 pub enum Asked {
     /// A call of the node.
     Call,

@@ -18,7 +18,7 @@ pub enum CrashChoice {
 
 /// An event of a cluster (own). Nodes, groups and peers are named by their ids; a moment `now` is in
 /// ticks.
-#[derive(Debug, Drop)]
+#[derive(Drop)]
 pub enum ClusterEvent {
     /// The node gets the group, with nothing in it.
     AddGroup {

@@ -14,7 +14,7 @@ use std::alloc::{AllocError, Global};
 use std::thread::Threads;
 
 /// What an event did in a group of a node (own): all that it stored is on the disk.
-#[derive(Debug, Drop)]
+#[derive(Drop)]
 pub struct NodeOutcome {
     /// The group.
     pub group: u64,

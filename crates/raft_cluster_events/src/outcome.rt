@@ -6,7 +6,7 @@ use raft_machines::{MembershipFault, Told, UnknownTokens};
 use raft_sent_frames::{SentNumber, Sequence};
 
 /// Why a node refuses an event, whose group is as before (own). Each reason has a number and a name.
-#[derive(Clone, Copy, Debug, PartialEq, Eq)]
+#[derive(Clone, Copy, PartialEq, Eq)]
 pub enum NodeRefusal {
     /// 1: the node doesn't lead the group; the leader is named where it is known.
     NotLeader { leader: Option<u64> },
@@ -57,7 +57,7 @@ pub enum StopCause {
 
 /// The tokens of an event that a node had done when memory was refused behind it (own). Nobody is told:
 /// all of them stay unknown.
-#[derive(Debug, Drop)]
+#[derive(Drop)]
 pub struct Unsaid {
     /// The group.
     pub group: u64,
@@ -68,7 +68,7 @@ pub struct Unsaid {
 }
 
 /// 16: a node stopped in an event (own).
-#[derive(Debug, Drop)]
+#[derive(Drop)]
 pub struct Stop {
     /// Why.
     pub cause: StopCause,
@@ -90,7 +90,7 @@ pub enum CrashRefusal {
 }
 
 /// Why a node doesn't do what it is asked for (own).
-#[derive(Debug, Drop)]
+#[derive(Drop)]
 pub enum NodeError {
     /// It refuses it: the group is as before.
     Refused(NodeRefusal),
@@ -99,7 +99,7 @@ pub enum NodeError {
 }
 
 /// What an event did in a group (own).
-#[derive(Debug, Drop)]
+#[derive(Drop)]
 pub struct GroupOutcome {
     /// The group.
     pub group: u64,
@@ -112,7 +112,7 @@ pub struct GroupOutcome {
 }
 
 /// What came of an event (own).
-#[derive(Debug, Drop)]
+#[derive(Drop)]
 pub enum EventOutcome {
     /// It was done, and did this in its group; an opening did so in each group of the node, by rising
     /// group.
@@ -129,7 +129,7 @@ pub enum EventOutcome {
 }
 
 /// An event with its outcome (own).
-#[derive(Debug, Drop)]
+#[derive(Drop)]
 pub struct Recorded {
     pub event: ClusterEvent,
     pub outcome: EventOutcome,

@@ -16,7 +16,7 @@ use raft_state::{
 use std::alloc::{AllocError, Global};
 
 /// What an event brings (own).
-#[derive(Debug, Drop)]
+#[derive(Drop)]
 pub struct Brought {
     /// The set-up that it asks for, if it would be the first one of its group.
     pub set_up: Option<SetUp>,

@@ -14,7 +14,7 @@ use raft_state::{BasicNode, Bytes, EntryPayload, LeaderId, LogId};
 use std::alloc::{AllocError, Global};
 
 /// What the call writes that stopped at a node last (own).
-#[derive(Debug, Drop)]
+#[derive(Drop)]
 pub struct StoppedCall {
     /// The node.
     pub node: u64,
@@ -23,7 +23,7 @@ pub struct StoppedCall {
 }
 
 /// What is kept of a group (own).
-#[derive(Debug, Drop)]
+#[derive(Drop)]
 pub struct KeptGroup {
     /// The group.
     pub group: u64,

@@ -13,7 +13,7 @@ use std::collections::BTreeMap;
 use std::marker::Model;
 
 /// What a cluster keeps of each of its groups (own). Contracts see the groups, in the order in which they came to be kept.
-#[derive(Debug, Drop)]
+#[derive(Drop)]
 pub struct ClusterLists {
     alloc: Global,
     groups: Vec<KeptGroup>,

@@ -1,23 +1,36 @@
-//! Runs a script on a cluster of nodes that have no rules of groups: what the cluster itself does of
-//! it is seen. The group of a reply is the tick. Then it runs four lists of events at once.
+//! Clusters of nodes that have no rules of groups: what the cluster itself does is seen. A row is one of
+//! these:
+//!
+//! - a line of a script, of which the group of a reply is the tick;
+//! - `at-once EVENT;EVENT`: events that a new cluster runs at once, each a line of a script, `fuse NODE`
+//!   or `lift NODE`;
+//! - `go-on EVENT;EVENT` and `round EVENT;EVENT`: the same of that cluster, in a round;
+//! - `behind-gate TURNS`: a new cluster of two nodes whose first writes look so often for each other;
+//! - `in GROUP OUTCOME NODE ..` and `opens GROUP OUTCOME NODE ..`: an event of a group, or an opening of
+//!   the node, and what is heard of it, as `voters=1,2`, `leads=1-1-2:0-0-0`, `writes=ab` or
+//!   `accepts=1-1-2`. Answered are the lists of groups 5 and 6;
+//! - `new`: the lists begin anew.
 #![tactic(auto)]
 
-mod runs;
+mod at_once;
+mod lists;
+mod rows;
 mod toy_node;
 
-use raft_cluster_script::run_script;
-use runs::run_events;
-use std::process::ExitCode;
-use toy_node::ToyNode;
+use rows::Clusters;
+use std::io;
+use std::thread::Threads;
 
-fn main(rt: HostRuntime) -> ExitCode {
-    let alloc = rt.alloc();
-    let end = run_script::<ToyNode, _, _, _>(&rt, alloc, 0, &mut rt.stdin(), &mut rt.stdout());
-    match run_events(&rt, alloc) {
-        Ok(text) => match println!(rt; "{text}") {
-            Ok(()) => ExitCode::from(end.status()),
-            Err(_) => ExitCode::from(3),
-        },
-        Err(_) => ExitCode::from(2),
+fn run<R: Input + Print + Threads + Sync>(rt: &R, clusters: &mut Clusters) -> io::Result<()> {
+    for row in rt.lines(clusters.alloc) {
+        let mut text = row?;
+        clusters.push_answer(rt, &mut text)?;
+        println!(rt; "{text}")?;
     }
+    Ok(())
+}
+
+fn main(rt: HostRuntime) -> io::Result<()> {
+    let mut clusters = Clusters::new(&rt, rt.alloc())?;
+    run(&rt, &mut clusters)
 }

@@ -5,7 +5,9 @@ use raft_cluster_events::{
     ClusterNode, CrashChoice, CrashRefusal, GroupCommand, Leading, NodeError, NodeFrame,
     NodeOutcome, NodeRefusal, Sequence, Stop, StopCause,
 };
+use raft_gate_files::{Gate, GateFiles};
 use raft_group_step::GroupCall;
+use raft_log_disk::FileSystem;
 use raft_machines::{AddingMachine, UnknownTokens, Untold};
 use raft_state::Bytes;
 use std::alloc::{AllocError, Global};
@@ -14,19 +16,43 @@ use std::thread::Threads;
 /// The length of its frames, in bytes.
 const FRAME: usize = 3;
 
-/// It has no machine and no files. An election sends a frame of three bytes to each of nodes 1 to 3, a
+/// It has no machine. An election sends a frame of three bytes to each of nodes 1 to 3, a
 /// frame that is whole is answered by one to its sender, and a lost request stops it. A crash that
 /// leaves the most is refused by chance where the last purge was up to place 6, as no image for 7, and
 /// for want of memory for 10. A cleaning of node 2 names groups 7 and 12. Behind a fuse an election or
-/// a cleaning stops it, until the fuse is lifted.
+/// a cleaning stops it, until the fuse is lifted. With a gate it has a file behind it, writes there where it
+/// gets a group, and refuses that where the write met no other node's.
 #[derive(Drop)]
 pub struct ToyNode {
     alloc: Global,
-    id: u64,
+    pub id: u64,
     is_up: bool,
     held: usize,
     purged: u64,
     is_fused: bool,
+    /// The group that it leads, and with what; nothing unless it is set.
+    pub group: u64,
+    pub leading: Option<Leading>,
+    files: Option<GateFiles>,
+}
+
+// Whether a first write to these files met that of another node.
+fn meets(files: &mut GateFiles) -> bool {
+    if files.make_dir("main").is_err() || files.is_file("main/log") {
+        return false;
+    }
+    let Ok(file) = files.create("main/log") else {
+        return false;
+    };
+    files.write_at(file, 0, b"abc").is_ok() && files.met() == Some(true)
+}
+
+// The files behind a gate, if there is one.
+fn files_behind(alloc: Global, gate: &Option<Gate>) -> Result<Option<GateFiles>, AllocError> {
+    match gate {
+        Some(gate) => Ok(Some(GateFiles::new(alloc, gate.again()?))),
+        None => Ok(None),
+    }
 }
 
 // What a call did that found memory.
@@ -61,6 +87,22 @@ fn frames_to(alloc: Global, group: u64, peers: &[u64]) -> Result<NodeOutcome, Al
 }
 
 impl ToyNode {
+    pub fn new(alloc: Global, id: u64) -> ToyNode
+        ensures { result.id ≡ id }
+    {
+        ToyNode {
+            alloc,
+            id,
+            is_up: true,
+            held: 0,
+            purged: 0,
+            is_fused: false,
+            group: 0,
+            leading: None,
+            files: None,
+        }
+    }
+
     fn stop(&self, group: u64, token: u64) -> Result<Stop, AllocError> {
         let mut unknown = Sequence::new(self.alloc);
         let place = token;
@@ -95,7 +137,7 @@ impl ToyNode {
 impl ClusterNode for ToyNode {
     type Machine = AddingMachine;
 
-    type Settings = u64;
+    type Settings = Option<Gate>;
 
     ghost acts = { record {
       id = λ n. n.id;
@@ -114,7 +156,7 @@ impl ClusterNode for ToyNode {
       closes = λ old new. Unit {0};
       machine_of = λ n group. None;
       applied_of = λ n group. None;
-      leads = λ n group told. told ≡ None;
+      leads = λ n group told. Unit {0};
     } };
 
     ghost states = { record {
@@ -126,16 +168,11 @@ impl ClusterNode for ToyNode {
         _rt: &R,
         alloc: Global,
         id: u64,
-        _settings: &u64,
+        settings: &Option<Gate>,
     ) -> Result<Self, AllocError> {
-        Ok(ToyNode {
-            alloc,
-            id,
-            is_up: true,
-            held: 0,
-            purged: 0,
-            is_fused: false,
-        })
+        let mut node = ToyNode::new(alloc, id);
+        node.files = files_behind(alloc, settings)?;
+        Ok(node)
     }
 
     fn id(&self) -> u64 {
@@ -147,6 +184,11 @@ impl ClusterNode for ToyNode {
     }
 
     fn add_group(&mut self, group: u64) -> Result<NodeOutcome, NodeError> {
+        if let Some(files) = &mut self.files {
+            if !meets(files) {
+                return Err(NodeError::Refused(NodeRefusal::Failed));
+            }
+        }
         done(frames_to(self.alloc, group, &[]), self.alloc)
     }
 
@@ -244,7 +286,11 @@ impl ClusterNode for ToyNode {
         None
     }
 
-    fn leading(&self, _group: u64) -> Option<Leading> {
-        None
+    fn leading(&self, group: u64) -> Option<Leading> {
+        if group == self.group {
+            self.leading
+        } else {
+            None
+        }
     }
 }

@@ -7,7 +7,7 @@ use raft_state::{LogId, NodeId, Vote};
 
 /// Who waits for an answer, and what the answer repeats of the request (own). It stands where
 /// openraft has one end of a channel.
-#[derive(Clone, Copy, Debug, PartialEq, Eq)]
+#[derive(Clone, Copy, PartialEq, Eq)]
 pub struct Caller<NID: NodeId> {
     /// The node that sent the request; the own id for a call of this node.
     pub peer: NID,

@@ -6,7 +6,7 @@ use raft_state::{ClientWriteError, LogId, Membership, MessageSummary};
 use std::alloc::{AllocError, Global};
 
 /// A client's command is applied (openraft).
-#[derive(Debug, Drop)]
+#[derive(Drop)]
 pub struct ClientWriteResponse<C: RaftTypeConfig> {
     /// The log id of the command.
     pub log_id: LogId<C::NodeId>,

@@ -25,7 +25,7 @@ pub enum CommandKind {
 }
 
 /// What has to be done before an answer leaves (openraft).
-#[derive(Clone, Copy, Debug, PartialEq, Eq)]
+#[derive(Clone, Copy, PartialEq, Eq)]
 pub enum Condition<NID: NodeId> {
     /// The leader's log is stored up to this log id.
     LogFlushed {
@@ -47,7 +47,7 @@ pub enum Condition<NID: NodeId> {
 }
 
 /// What the runtime is told to do (openraft, without what only async tasks need).
-#[derive(Debug, Drop)]
+#[derive(Drop)]
 pub enum Command<C: RaftTypeConfig> {
     /// The node leads from now on.
     BecomeLeader,

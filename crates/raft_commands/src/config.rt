@@ -3,7 +3,7 @@ ghost use Rattle.std.specs.Prelude.{◌≡◌};
 
 /// What a runtime is set up with; times are in ticks (openraft, of which the parts that need
 /// tasks, files or a clock are left out).
-#[derive(Clone, Copy, Debug, PartialEq, Eq)]
+#[derive(Clone, Copy, PartialEq, Eq)]
 pub struct Config {
     /// A leader sends a heartbeat this often.
     pub heartbeat_interval: u64,

@@ -7,7 +7,7 @@ use raft_messages::MAX_ENTRIES;
 use raft_values::node::{NodeId, default_id};
 
 /// What an engine is set up with (openraft).
-#[derive(Clone, Copy, Debug, PartialEq, Eq)]
+#[derive(Clone, Copy, PartialEq, Eq)]
 pub struct EngineConfig<NID: NodeId> {
     /// The id of the node.
     pub id: NID,

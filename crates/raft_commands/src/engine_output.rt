@@ -11,7 +11,7 @@ use std::marker::Model;
 
 /// What the runtime is to do, in its order, and the last number that a command of the state
 /// machine got (openraft). Contracts see a list and a number.
-#[derive(Debug, Drop)]
+#[derive(Drop)]
 pub struct EngineOutput<C: RaftTypeConfig> {
     last_sm_seq: u64,
     commands: VecDeque<Command<C>>,

@@ -11,7 +11,7 @@ use raft_state::{LogId, LogIdRange};
 use std::fmt::{self, Display};
 
 /// Something under the number of a request (openraft).
-#[derive(Clone, Copy, Debug, PartialEq, Eq)]
+#[derive(Clone, Copy, PartialEq, Eq)]
 pub struct DataWithId<T> {
     /// The request.
     pub request_id: RequestId,
@@ -46,7 +46,7 @@ impl<T> DataWithId<T> {
 }
 
 /// What a request to a peer brings (openraft).
-#[derive(Debug, Drop)]
+#[derive(Drop)]
 pub enum Data<C: RaftTypeConfig> {
     /// Nothing.
     Heartbeat,
@@ -119,7 +119,7 @@ impl<C: RaftTypeConfig> Display for Data<C> {
 }
 
 /// What the sender of a peer's requests is told (openraft).
-#[derive(Debug, Drop)]
+#[derive(Drop)]
 pub enum Replicate<C: RaftTypeConfig> {
     /// The peer is told how far is committed.
     Committed(Option<LogId<C::NodeId>>),

@@ -6,7 +6,7 @@ use raft_state::{LogId, NodeId};
 use std::fmt::{self, Display};
 
 /// What came of a request to a peer (openraft; moments are ticks).
-#[derive(Clone, Copy, Debug, PartialEq, Eq)]
+#[derive(Clone, Copy, PartialEq, Eq)]
 pub struct ReplicationResult<NID: NodeId> {
     /// The moment when the request was sent.
     pub sending_time: u64,

@@ -10,7 +10,7 @@ use raft_group_step::{
 use raft_state::InitializeError;
 
 /// An answer, and who waits for it (openraft; here both are plain values).
-#[derive(Debug, Drop)]
+#[derive(Drop)]
 pub struct ValueSender<C: RaftTypeConfig, T> {
     /// The answer.
     pub value: T,
@@ -35,7 +35,7 @@ impl<C: RaftTypeConfig, T> ValueSender<C, T> {
 }
 
 /// An answer of a node (openraft).
-#[derive(Debug, Drop)]
+#[derive(Drop)]
 pub enum Respond<C: RaftTypeConfig> {
     /// To a vote request.
     Vote(ValueSender<C, VoteResponse<C::NodeId>>),

@@ -9,7 +9,7 @@ use std::alloc::{AllocError, Global};
 
 /// What the senders of requests tell the engine's runtime (openraft, without errors of the
 /// storage: those are the runtime's own).
-#[derive(Debug, Drop)]
+#[derive(Drop)]
 pub enum Response<C: RaftTypeConfig> {
     /// A peer has answered, or the request failed.
     Progress {

@@ -7,7 +7,7 @@ use std::fmt::{self, Display};
 
 /// For which lead and which membership requests are sent: an answer to others' requests isn't
 /// counted (openraft).
-#[derive(Clone, Copy, Debug, PartialEq, Eq)]
+#[derive(Clone, Copy, PartialEq, Eq)]
 pub struct ReplicationSessionId<NID: NodeId> {
     /// The leader's vote.
     pub vote: Vote<NID>,

@@ -8,7 +8,7 @@ use raft_group_step::Entries;
 use raft_state::SnapshotMeta;
 
 /// What the state machine is to do (openraft). A snapshot's bytes stay with the runtime.
-#[derive(Debug, Drop)]
+#[derive(Drop)]
 pub enum CommandPayload<C: RaftTypeConfig> {
     /// A snapshot of what is applied is built.
     BuildSnapshot,
@@ -35,7 +35,7 @@ pub enum CommandPayload<C: RaftTypeConfig> {
 }
 
 /// A command of the state machine under its number (openraft).
-#[derive(Debug, Drop)]
+#[derive(Drop)]
 pub struct Command<C: RaftTypeConfig> {
     /// The number; 0 until it is given one.
     pub seq: u64,

@@ -32,7 +32,7 @@ pub struct GroupFacts<'a> {
 }
 
 /// Who a message is from and for (own).
-#[derive(Clone, Copy, Debug, PartialEq, Eq)]
+#[derive(Clone, Copy, PartialEq, Eq)]
 pub struct Parties {
     /// The node whose connection the message came over.
     pub peer: u64,

@@ -1,14 +1,15 @@
 //! The calls of a node. Each stands in a function of its own: a caller's proof then carries the clauses
 //! of none.
 
-use crate::node::{Answered, CountersNode, Failure, Refused};
-use raft_node::Fed;
+use crate::node::{Answered, CountersNode, Piece, Refused};
 use raft_rows::{bytes, number};
 use raft_state::{BasicNode, Bytes, ChangeMembers, Membership, NodeMap};
 use std::alloc::{AllocError, Global};
 
 // The addresses of the nodes.
 const NODES: [(u64, &str); 3] = [(1, "a"), (2, "b"), (3, "c")];
+
+// ---- calls of words and numbers
 
 fn add(node: &mut CountersNode, group: u64) -> Answered {
     node.add_group(group)
@@ -22,17 +23,29 @@ fn heartbeat(node: &mut CountersNode, group: u64, now: u64) -> Answered {
     node.heartbeat(group, now)
 }
 
-fn lost(node: &mut CountersNode, group: u64, peer: u64, now: u64) -> Answered {
-    node.lost(group, peer, now)
-}
-
 fn snapshot(node: &mut CountersNode, group: u64, now: u64) -> Answered {
     node.trigger_snapshot(group, now)
+}
+
+fn lost(node: &mut CountersNode, group: u64, peer: u64, now: u64) -> Answered {
+    node.lost(group, peer, now)
 }
 
 fn purge(node: &mut CountersNode, group: u64, place: u64, now: u64) -> Answered {
     node.trigger_purge_log(group, place, now)
 }
+
+// A call of the group at this moment.
+fn plain_call(node: &mut CountersNode, verb: &str, group: u64, now: u64) -> Option<Answered> {
+    match verb {
+        "elect" => Some(elect(node, group, now)),
+        "heartbeat" => Some(heartbeat(node, group, now)),
+        "snapshot" => Some(snapshot(node, group, now)),
+        _ => None,
+    }
+}
+
+// ---- calls with values
 
 // The first nodes, so many, are to be the group's voters.
 fn initialize(
@@ -47,7 +60,32 @@ fn initialize(
     Some(node.initialize(group, membership, now))
 }
 
-// A command of these words, one behind the other.
+// A call with one number more.
+fn call_with(
+    alloc: Global,
+    node: &mut CountersNode,
+    verb: &str,
+    group: u64,
+    number: u64,
+    now: u64,
+) -> Option<Answered> {
+    match verb {
+        "initialize" => initialize(alloc, node, group, number, now),
+        "lost" => Some(lost(node, group, number, now)),
+        "purge" => Some(purge(node, group, number, now)),
+        _ => None,
+    }
+}
+
+// The command of a key and an amount, or of one word.
+fn command(alloc: Global, words: &[&str]) -> Result<Bytes, AllocError> {
+    let mut command = Vec::new(alloc);
+    for word in words {
+        command.extend_from_slice(bytes(alloc, word)?.as_slice())?;
+    }
+    Bytes::from_slice(alloc, command.as_slice())
+}
+
 fn propose(
     alloc: Global,
     node: &mut CountersNode,
@@ -55,70 +93,36 @@ fn propose(
     words: &[&str],
     token: u64,
     now: u64,
-) -> Result<Answered, AllocError> {
-    let mut command = Vec::new(alloc);
-    for word in words {
-        let word = bytes(alloc, word)?;
-        command.extend_from_slice(word.as_slice())?;
-    }
-    let command = Bytes::from_slice(alloc, command.as_slice())?;
-    Ok(node.propose(group, command, token, now))
+) -> Option<Answered> {
+    let command = command(alloc, words).ok()?;
+    Some(node.propose(group, command, token, now))
 }
 
 // The node of this id at this address.
-fn learner(alloc: Global, id: u64, address: &str) -> Result<NodeMap<u64, BasicNode>, AllocError> {
+fn one_node(alloc: Global, id: u64, address: &str) -> Result<NodeMap<u64, BasicNode>, AllocError> {
+    let node = BasicNode::new(alloc, address)?;
     let mut nodes = NodeMap::new(alloc);
-    nodes.insert(id, BasicNode::new(alloc, address)?)?;
+    nodes.insert(id, node)?;
     Ok(nodes)
 }
 
-// The node is to be a learner of the group.
-fn add_learner(
-    alloc: Global,
+// These nodes are to be learners of the group.
+fn add_learners(
     node: &mut CountersNode,
     group: u64,
-    words: [&str; 2],
+    learners: NodeMap<u64, BasicNode>,
     token: u64,
     now: u64,
-) -> Result<Answered, AllocError> {
-    let [id, address] = words;
-    let change = ChangeMembers::AddNodes(learner(alloc, number(id), address)?);
-    Ok(node.change_membership(group, change, token, now))
-}
-
-// A call without bytes of its own.
-fn plain_call(node: &mut CountersNode, words: &[&str]) -> Option<Answered> {
-    match *words {
-        ["add", group] => Some(add(node, number(group))),
-        ["elect", group, now] => Some(elect(node, number(group), number(now))),
-        ["heartbeat", group, now] => Some(heartbeat(node, number(group), number(now))),
-        ["lost", group, peer, now] => { Some(lost(node, number(group), number(peer), number(now))) }
-        ["snapshot", group, now] => Some(snapshot(node, number(group), number(now))),
-        ["purge", group, place, now] => {
-            Some(purge(node, number(group), number(place), number(now)))
-        }
-        _ => None,
-    }
+) -> Answered {
+    node.change_membership(group, ChangeMembers::AddNodes(learners), token, now)
 }
 
 /// The call that the words name, if they name one.
 pub fn call(alloc: Global, node: &mut CountersNode, words: &[&str]) -> Option<Answered> {
     match *words {
-        ["initialize", group, count, now] => {
-            initialize(alloc, node, number(group), number(count), number(now))
-        }
-        ["propose", group, ref words @ .., token, now] => propose(
-            alloc,
-            node,
-            number(group),
-            words,
-            number(token),
-            number(now),
-        )
-        .ok(),
-        ["learner", group, id, address, token, now] => {
-            let words = [id, address];
-            add_learner(
+        ["add", group] => Some(add(node, number(group))),
+        ["propose", group, ref words @ .., token, now] => {
+            propose(
                 alloc,
                 node,
                 number(group),
@@ -126,14 +130,21 @@ pub fn call(alloc: Global, node: &mut CountersNode, words: &[&str]) -> Option<An
                 number(token),
                 number(now),
             )
-            .ok()
         }
-        _ => plain_call(node, words),
+        ["learner", group, id, address, token, now] => {
+            let learners = one_node(alloc, number(id), address).ok()?;
+            Some(add_learners(node, number(group), learners, number(token), number(now)))
+        }
+        [verb, group, now] => plain_call(node, verb, number(group), number(now)),
+        [verb, group, other, now] => {
+            call_with(alloc, node, verb, number(group), number(other), number(now))
+        }
+        _ => None,
     }
 }
 
 /// A piece of the peer's stream comes.
-pub fn feed(node: &mut CountersNode, peer: u64, piece: &[u8], now: u64) -> Fed<Failure> {
+pub fn feed(node: &mut CountersNode, peer: u64, piece: &[u8], now: u64) -> Piece {
     node.feed(peer, piece, now)
 }
 

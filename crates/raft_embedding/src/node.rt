@@ -3,9 +3,10 @@
 use crate::counters::Counters;
 use raft_log_engine::{EngineFault, LogFiles, MemoryLog, NotClosed, NotOpened as LogNotOpened};
 use raft_log_files::Config;
-use raft_node::{Cause, Fault, Node, NotOpened, Opened, Outcome};
+use raft_node::{Cause, Fault, Fed, Node, NotOpened, Opened, Outcome};
 use raft_store::{Store, StoreFault};
 use std::alloc::{AllocError, Global};
+use std::collections::BTreeMap;
 
 /// Where a node keeps its groups.
 pub type Kept = Store<Counters, MemoryLog>;
@@ -14,7 +15,7 @@ pub type Kept = Store<Counters, MemoryLog>;
 pub type CountersNode = Node<Counters, Kept>;
 
 /// Why a node's storage fails.
-pub type Failure = StoreFault<EngineFault>;
+type Failure = StoreFault<EngineFault>;
 
 /// Why a call isn't done.
 pub type Refused = Fault<Failure>;
@@ -22,35 +23,29 @@ pub type Refused = Fault<Failure>;
 /// What a call answers.
 pub type Answered = Result<Outcome, Refused>;
 
-/// A node that isn't up: why, and its files.
+/// What a piece of a stream did.
+pub type Piece = Fed<Failure>;
+
+/// A node where it is up, or else its files, if it had any; and by sender the bytes that are on their
+/// way to it.
 #[derive(Drop)]
-pub struct NotUp {
-    pub why: Refused,
-    pub files: LogFiles,
+pub struct Home {
+    alloc: Global,
+    id: u64,
+    pub node: Option<CountersNode>,
+    files: Option<LogFiles>,
+    coming: BTreeMap<u64, Vec<u8>>,
 }
 
-/// No files yet.
-pub fn new_files(alloc: Global) -> Result<LogFiles, AllocError> {
+// No files yet.
+fn new_files(alloc: Global) -> Result<LogFiles, AllocError> {
+    let directory = String::from_str(alloc, "counters")?;
     let mut settings = Config::default(alloc);
-    settings.dir = String::from_str(alloc, "counters")?;
+    settings.dir = directory;
     Ok(LogFiles::new(alloc, settings))
 }
 
-// The log over the files.
-fn open_log(alloc: Global, files: LogFiles) -> Result<MemoryLog, NotUp> {
-    match MemoryLog::open(alloc, files) {
-        Ok(log) => Ok(log),
-        Err(LogNotOpened { fault, files }) => Err(NotUp {
-            why: Fault::Stopped {
-                cause: Cause::Storage(StoreFault::Log(fault)),
-                unknown: Vec::new(alloc),
-            },
-            files,
-        }),
-    }
-}
-
-// The node over the log.
+// The node with all groups that its log has.
 fn open_on(
     alloc: Global,
     id: u64,
@@ -59,24 +54,107 @@ fn open_on(
     Node::open(alloc, id, Store::new(alloc, log))
 }
 
-/// The node with all groups that its files have.
-pub fn open_node(alloc: Global, id: u64, files: LogFiles) -> Result<Opened<Counters, Kept>, NotUp> {
-    let log = open_log(alloc, files)?;
-    match open_on(alloc, id, log) {
-        Ok(opened) => Ok(opened),
-        Err(NotOpened { fault, storage }) => Err(NotUp {
-            why: fault,
-            files: storage.into_log().into_files(),
-        }),
-    }
-}
-
-/// The node is closed, and its files are left, also where that was refused.
-pub fn close_node(node: CountersNode) -> Result<LogFiles, NotClosed<LogFiles>> {
+// The node is closed, and its files are left, also where that was refused.
+fn close_node(node: CountersNode) -> Result<LogFiles, NotClosed<LogFiles>> {
     node.into_storage().into_log().close()
 }
 
-/// The machine of a node stops, which leaves its files as they are.
-pub fn crash_node(node: CountersNode) -> LogFiles {
+// The machine of a node stops, which leaves its files as they are.
+fn crash_node(node: CountersNode) -> LogFiles {
     node.into_storage().into_log().into_files()
+}
+
+impl Home {
+    pub fn new(alloc: Global, id: u64) -> Home {
+        Home {
+            alloc,
+            id,
+            node: None,
+            files: None,
+            coming: BTreeMap::new(alloc),
+        }
+    }
+
+    // ---- openings
+
+    // No node is up, as this says.
+    fn not_up(&self, cause: Cause<Failure>) -> Refused {
+        Fault::Stopped {
+            cause,
+            unknown: Vec::new(self.alloc),
+        }
+    }
+
+    // The files that are there, or new ones.
+    fn take_files(&mut self) -> Result<LogFiles, AllocError> {
+        match self.files.take() {
+            Some(files) => Ok(files),
+            None => new_files(self.alloc),
+        }
+    }
+
+    // The log over the files.
+    fn open_log(&mut self) -> Result<MemoryLog, Refused> {
+        let Ok(files) = self.take_files() else {
+            return Err(self.not_up(Cause::Unjudged));
+        };
+        match MemoryLog::open(self.alloc, files) {
+            Ok(log) => Ok(log),
+            Err(LogNotOpened { fault, files }) => {
+                self.files = Some(files);
+                Err(self.not_up(Cause::Storage(StoreFault::Log(fault))))
+            }
+        }
+    }
+
+    /// The node is opened on its files, or on new ones: what that did in each group.
+    pub fn open(&mut self) -> Result<Vec<Outcome>, Refused> {
+        let log = self.open_log()?;
+        match open_on(self.alloc, self.id, log) {
+            Ok(Opened { node, outcomes }) => {
+                self.node = Some(node);
+                Ok(outcomes)
+            }
+            Err(NotOpened { fault, storage }) => {
+                self.files = Some(storage.into_log().into_files());
+                Err(fault)
+            }
+        }
+    }
+
+    /// The node is closed; nothing where it isn't up.
+    pub fn close(&mut self) -> Option<&'static str> {
+        let (files, word) = match close_node(self.node.take()?) {
+            Ok(files) => (files, "closed"),
+            Err(NotClosed { files, .. }) => (files, "not closed"),
+        };
+        self.files = Some(files);
+        Some(word)
+    }
+
+    /// The node's machine stops; nothing where it isn't up.
+    pub fn crash(&mut self) -> Option<&'static str> {
+        self.files = Some(crash_node(self.node.take()?));
+        Some("crashed")
+    }
+
+    // ---- streams
+
+    /// These bytes are on their way to the node.
+    pub fn send(&mut self, sender: u64, bytes: &[u8]) -> Result<(), AllocError> {
+        if let Some(stream) = self.coming.get_mut(&sender) {
+            return stream.extend_from_slice(bytes);
+        }
+        let stream = Vec::from_slice(self.alloc, bytes)?;
+        self.coming.insert(sender, stream)?;
+        Ok(())
+    }
+
+    /// All that is on its way from the sender, which is so no more.
+    pub fn take(&mut self, sender: u64) -> Vec<u8> {
+        match self.coming.remove(&sender) {
+            Some(stream) => stream,
+            None => Vec::new(self.alloc),
+        }
+    }
 }

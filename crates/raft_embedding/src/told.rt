@@ -1,15 +1,17 @@
-//! What a node answers, in words.
+//! What a node answers and tells, in words.
 
-use crate::node::{CountersNode, Failure, Refused};
-use raft_framed_groups::GroupFrame;
-use raft_machines::{Told, Untold};
+use crate::node::{CountersNode, Refused};
+use raft_machines::Told;
 use raft_node::{Cause, Fault, Outcome, UnknownTokens};
+use raft_rows::number;
 use raft_store::StoreFault;
-use std::alloc::{AllocError, Global};
+use std::alloc::AllocError;
 use std::fmt::{self, Display};
 
+// ---- outcomes and refusals
+
 // A value that may be missing.
-#[derive(Drop)]
+#[derive(Clone, Copy)]
 struct Shown<T>(Option<T>);
 
 impl<T: Display> Display for Shown<T> {
@@ -21,166 +23,129 @@ impl<T: Display> Display for Shown<T> {
     }
 }
 
-// ---- outcomes
-
-fn push_frames(alloc: Global, text: &mut String, frames: &[GroupFrame]) -> Result<(), AllocError> {
-    for frame in frames {
-        text.push_str(format!(in alloc; " >{}", frame.addressee)?.as_str())?;
-    }
-    Ok(())
-}
-
-fn push_told(alloc: Global, text: &mut String, told: &[Told]) -> Result<(), AllocError> {
+fn write_told<W: fmt::Write>(f: &mut fmt::Formatter<W>, told: &[Told]) -> fmt::Result {
     for one in told {
         let answer = one.answer.as_slice().escape_ascii();
-        let word = format!(in alloc; " told {}@{}=\"{answer}\"", one.token, one.place)?;
-        text.push_str(word.as_str())?;
+        write!(f, " told {}@{}=\"{answer}\"", one.token, one.place)?;
     }
     Ok(())
 }
 
-fn push_unknown(alloc: Global, text: &mut String, unknown: &[u64]) -> Result<(), AllocError> {
-    for token in unknown {
-        text.push_str(format!(in alloc; " unknown {token}")?.as_str())?;
+/// What an event did: to whom frames go, which tokens are told with which answer, and which ones
+/// stay unknown.
+#[derive(Clone, Copy)]
+pub struct Done<'a>(pub &'a Outcome);
+
+impl Display for Done<'_> {
+    fn fmt<W: fmt::Write>(&self, f: &mut fmt::Formatter<W>) -> fmt::Result {
+        write!(f, "done in {}", self.0.group)?;
+        for frame in self.0.frames.as_slice() {
+            write!(f, " >{}", frame.addressee)?;
+        }
+        write_told(f, self.0.told.as_slice())?;
+        for token in self.0.unknown.as_slice() {
+            write!(f, " unknown {token}")?;
+        }
+        Ok(())
     }
-    Ok(())
-}
-
-/// What an event did: to whom frames go, which tokens are told with which answer, and which ones stay
-/// unknown.
-pub fn text_of(alloc: Global, outcome: &Outcome) -> Result<String, AllocError> {
-    let mut text = format!(in alloc; "done in {}", outcome.group)?;
-    push_frames(alloc, &mut text, outcome.frames.as_slice())?;
-    push_told(alloc, &mut text, outcome.told.as_slice())?;
-    push_unknown(alloc, &mut text, outcome.unknown.as_slice())?;
-    Ok(text)
-}
-
-// ---- refusals
-
-fn push_untold(
-    alloc: Global,
-    text: &mut String,
-    group: u64,
-    untold: &[Untold],
-) -> Result<(), AllocError> {
-    for one in untold {
-        let word = format!(in alloc; " unknown {} in {group}", one.token)?;
-        text.push_str(word.as_str())?;
-    }
-    Ok(())
 }
 
 // The tokens that waited.
-fn push_waited(
-    alloc: Global,
-    text: &mut String,
-    waited: &[UnknownTokens],
-) -> Result<(), AllocError> {
-    for one in waited {
-        push_untold(alloc, text, one.group, one.tokens.as_slice())?;
+fn write_waited<W: fmt::Write>(f: &mut fmt::Formatter<W>, waited: &[UnknownTokens]) -> fmt::Result {
+    for group in waited {
+        for one in group.tokens.as_slice() {
+            write!(f, " unknown {} in {}", one.token, group.group)?;
+        }
     }
     Ok(())
 }
 
-fn push_leader(alloc: Global, text: &mut String, leader: Option<u64>) -> Result<(), AllocError> {
-    text.push_str(format!(in alloc; ", led by {}", Shown(leader))?.as_str())
-}
+/// Why a call isn't done, by number and name. Behind 1 stands the leader, behind 16 what the store
+/// refused, if it did, and the tokens that waited.
+#[derive(Clone, Copy)]
+pub struct Why<'a>(pub &'a Refused);
 
-// Why the store itself stopped a node, if it did.
-fn push_cause(alloc: Global, text: &mut String, cause: &Cause<Failure>) -> Result<(), AllocError> {
-    match cause {
-        Cause::Storage(StoreFault::Refused(why)) => {
-            text.push_str(format!(in alloc; ": {why}")?.as_str())
+impl Display for Why<'_> {
+    fn fmt<W: fmt::Write>(&self, f: &mut fmt::Formatter<W>) -> fmt::Result {
+        write!(f, "refused {} {}", self.0.number(), self.0.name())?;
+        match self.0 {
+            Fault::NotLeader { leader } => write!(f, ", led by {}", Shown(*leader)),
+            Fault::Stopped { cause, unknown } => {
+                if let Cause::Storage(StoreFault::Refused(why)) = cause {
+                    write!(f, ": {why}")?;
+                }
+                write_waited(f, unknown.as_slice())
+            }
+            _ => Ok(()),
         }
-        _ => Ok(()),
     }
-}
-
-// What a refusal says beside its number and name.
-fn push_more(alloc: Global, text: &mut String, fault: &Refused) -> Result<(), AllocError> {
-    match fault {
-        Fault::NotLeader { leader } => push_leader(alloc, text, *leader),
-        Fault::Stopped { cause, unknown } => {
-            push_cause(alloc, text, cause)?;
-            push_waited(alloc, text, unknown.as_slice())
-        }
-        _ => Ok(()),
-    }
-}
-
-/// Why a call isn't done, by number and name.
-pub fn refusal_of(alloc: Global, fault: &Refused) -> Result<String, AllocError> {
-    let mut text = format!(in alloc; "refused {} {}", fault.number(), fault.name())?;
-    push_more(alloc, &mut text, fault)?;
-    Ok(text)
-}
-
-/// The same behind other words.
-pub fn push_refusal(alloc: Global, text: &mut String, fault: &Refused) -> Result<(), AllocError> {
-    let refusal = refusal_of(alloc, fault)?;
-    text.push_str("; ")?;
-    text.push_str(refusal.as_str())
 }
 
 // ---- what a node tells
 
-/// What a node tells of a group.
-pub fn seen(alloc: Global, node: &CountersNode, group: u64) -> Result<String, AllocError> {
+fn seen(node: &CountersNode, group: u64, text: &mut String) -> Result<(), AllocError> {
     let role = node.role(group);
     let leader = Shown(node.leader(group));
     let last = Shown(node.last_log_id(group));
     let next = Shown(node.next_log_id(group));
     let applied = Shown(node.applied(group));
-    format!(in alloc; "{role:?}, led by {leader}, last {last}, next {next}, applied {applied}")
+    write!(
+        text,
+        "{role:?}, led by {leader}, last {last}, next {next}, applied {applied}"
+    )
 }
 
-/// The groups that are there at a node.
-pub fn groups(alloc: Global, node: &CountersNode) -> Result<String, AllocError> {
-    let groups = node.groups()?;
-    format!(in alloc; "groups {:?}", groups)
-}
-
-/// The moment from which on an election of the group may be asked for.
-pub fn elections(alloc: Global, node: &CountersNode, group: u64) -> Result<String, AllocError> {
-    let moment = Shown(node.may_elect_from(group));
-    format!(in alloc; "from {moment} on")
-}
-
-/// What a node tells of a group's members, snapshot and requests: a peer's address, the moment of the
-/// vote, the ends of snapshot and purge, and whether it waits for the peer.
-pub fn kept(
-    alloc: Global,
-    node: &CountersNode,
-    group: u64,
-    peer: u64,
-) -> Result<String, AllocError> {
-    let known = node.membership(group);
-    let address = known.and_then(|known| known.get_node(&peer));
-    let address = Shown(address.map(|node| node.addr.as_str()));
+// A peer's address, the moment of the vote, the ends of snapshot and purge, and whether the node
+// waits for the peer.
+fn known(node: &CountersNode, group: u64, peer: u64, text: &mut String) -> Result<(), AllocError> {
+    let known = node
+        .membership(group)
+        .and_then(|known| known.get_node(&peer));
+    let address = Shown(known.map(|node| node.addr.as_str()));
     let renewed = Shown(node.renewed(group));
     let snapshot = Shown(node.snapshot_last(group));
     let purged = Shown(node.last_purged_log_id(group));
     let waits = node.is_waiting_for(group, peer);
-    format!(in alloc;
+    write!(
+        text,
         "{peer} at {address}, renewed {renewed}, snapshot {snapshot}, purged {purged}, waits {waits}"
     )
 }
 
-/// The count of the key by the group's counters, as a byte.
-pub fn count_of(
-    alloc: Global,
-    node: &CountersNode,
-    group: u64,
-    key: &str,
-) -> Result<String, AllocError> {
-    let counters = node.machine(group);
-    let count = match (counters, key.as_bytes()) {
+fn groups(node: &CountersNode, text: &mut String) -> Result<(), AllocError> {
+    let groups = node.groups()?;
+    write!(text, "groups {groups:?}")
+}
+
+// The count of the key by the group's counters, as a byte.
+fn count(node: &CountersNode, group: u64, key: &str, text: &mut String) -> Result<(), AllocError> {
+    let count = match (node.machine(group), key.as_bytes()) {
         (Some(counters), [key]) => counters.get(*key),
         _ => None,
     };
     match count {
-        Some(count) => format!(in alloc; "\"{}\"", [count].escape_ascii()),
-        None => format!(in alloc; "-"),
+        Some(count) => write!(text, "\"{}\"", [count].escape_ascii()),
+        None => write!(text, "-"),
     }
+}
+
+/// What the words ask the node to tell, if they ask for something.
+pub fn look(
+    node: &CountersNode,
+    words: &[&str],
+    text: &mut String,
+) -> Option<Result<(), AllocError>> {
+    Some(match *words {
+        ["is"] => write!(text, "node {}, failed {}", node.id(), node.has_failed()),
+        ["has"] => groups(node, text),
+        ["may", group] => write!(
+            text,
+            "from {} on",
+            Shown(node.may_elect_from(number(group)))
+        ),
+        ["sees", group] => seen(node, number(group), text),
+        ["knows", group, peer] => known(node, number(group), number(peer), text),
+        ["gets", group, key] => count(node, number(group), key, text),
+        _ => return None,
+    })
 }

@@ -6,7 +6,7 @@ use Rattle.std.proofs.lemmas.Bool.{leb-true, leb-false, le-leb}
 use Rattle.raft_values.specs.declared.vote.Vote.{Vote}
 use Rattle.raft_values.specs.declared.log_id.LogId.{LogId}
 use Rattle.raft_values.specs.LogId.{next_place, place_of, reaches}
-use Rattle.raft_state.specs.LogIdList.{last_id}
+use Rattle.raft_log_ids.specs.LogIdList.{last_id}
 use Rattle.raft_quorums.specs.Quorum.{is_majority, is_quorum}
 use Rattle.raft_group_step.specs.Values.{Entry, leader_eq}
 use Rattle.raft_group_step.specs.StoredGroup.{StoredGroup, end_place, first_place, membership_in_force}

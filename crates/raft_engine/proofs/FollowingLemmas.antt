@@ -5,7 +5,7 @@ use Rattle.std.proofs.Common.{sym, ap, ◌∙◌, subst, arith, length-append}
 use Rattle.std.proofs.lemmas.Bool.Decides.{nat_tests}
 use Rattle.raft_values.specs.declared.log_id.LogId.{LogId}
 use Rattle.raft_values.specs.LogId.{next_place, place_of}
-use Rattle.raft_state.specs.LogIdList.{last_id}
+use Rattle.raft_log_ids.specs.LogIdList.{last_id}
 use Rattle.raft_group_step.specs.Values.{Entry}
 use Rattle.raft_group_step.specs.StoredGroup.{StoredGroup, StoringCommand, PutEntries, after_storing, first_place, end_place, entry_at, id_at, log_below, snapshot_last}
 use Rattle.raft_group_step.specs.GroupState.{GroupState, Follower}

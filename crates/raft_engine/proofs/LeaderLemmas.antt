@@ -7,7 +7,7 @@ use Rattle.raft_values.specs.declared.vote.Vote.{Vote}
 use Rattle.raft_values.specs.declared.vote.LeaderId.{LeaderId}
 use Rattle.raft_values.specs.declared.log_id.LogId.{LogId}
 use Rattle.raft_values.specs.LogId.{next_place}
-use Rattle.raft_state.specs.LogIdList.{PlacesRise, ids_of, last_id}
+use Rattle.raft_log_ids.specs.LogIdList.{PlacesRise, ids_of, last_id}
 use Rattle.raft_membership.specs.Membership.{voter_ids, learner_ids}
 use Rattle.raft_progress.specs.Parts.{value_of}
 use Rattle.raft_group_step.specs.Values.{LoggedMembership, has_id, leader_eq}

@@ -6,7 +6,7 @@ use Rattle.std.proofs.lemmas.Bool.Decides.{nat_tests}
 use Rattle.std.proofs.lemmas.List.{length-take}
 use Rattle.raft_values.specs.declared.log_id.LogId.{LogId}
 use Rattle.raft_values.specs.LogId.{next_place}
-use Rattle.raft_state.specs.LogIdList.{AllGoOn}
+use Rattle.raft_log_ids.specs.LogIdList.{AllGoOn}
 use Rattle.raft_group_step.specs.Values.{Entry, log_id_eq}
 use Rattle.raft_group_step.specs.StoredGroup.{StoredGroup, first_place, end_place, entry_at, id_of, id_at, is_id, has_id_in_log, log_below}
 use Rattle.raft_group_step.proofs.EntryPlaces.{entry_within}

@@ -13,8 +13,9 @@ use Rattle.raft_values.specs.declared.validate.Invalid.TheVariants.{CommittedPas
 use Rattle.raft_values.specs.LogId.{is_past, next_place, place_of}
 use Rattle.raft_membership.specs.MembershipState.{membership_fault}
 use Rattle.raft_state.specs.declared.raft_state.RaftState.{RaftState}
-use Rattle.raft_state.specs.LogIdList.{id_at as id_in, last_id as last_in}
-use Rattle.raft_state.specs.State.{begins_at, last_purged, or_fault, purge_fault, state_fault}
+use Rattle.raft_log_ids.specs.LogIdList.{id_at as id_in, last_id as last_in}
+use Rattle.raft_state.specs.State.{begins_at, last_purged, purge_fault, state_fault}
+use Rattle.raft_log_ids.specs.Faults.{or_fault}
 use Rattle.raft_state.specs.declared.entry.EntryPayload.TheVariants.{Blank, Normal, Membership as Members}
 use Rattle.raft_group_step.specs.Values.{Entry, EntryPayload}
 use Rattle.raft_group_step.specs.StoredGroup.{StoredGroup, end_place, first_place, id_at, membership_in_force, snapshot_last}

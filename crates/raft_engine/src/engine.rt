@@ -28,7 +28,7 @@ fn has_rules_numbers<NID: NodeId>(config: &EngineConfig<NID>) -> bool
 
 /// The engine of a group at a node (openraft): what is known of the group, what part the node
 /// plays, and what its runtime is to do.
-#[derive(Debug, Drop)]
+#[derive(Drop)]
 pub struct Engine<C: RaftTypeConfig> {
     /// What the engine is set up with.
     pub config: EngineConfig<C::NodeId>,

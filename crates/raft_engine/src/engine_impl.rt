@@ -2,7 +2,7 @@
 ghost use Rattle.std.specs.Prelude.{◌≡◌, ◌<◌, ◌+◌, ◌^◌, ℕ, OnOk, IfOk, max, [], None, Some, Ok, Err, true, false, is_some, nat_eq};
 ghost use Rattle.std.specs.Result.{is_ok};
 ghost use Rattle.raft_values.specs.LogId.{next_place};
-ghost use Rattle.raft_state.specs.LogIdList.{last_id};
+ghost use Rattle.raft_log_ids.specs.LogIdList.{last_id};
 ghost use Rattle.raft_membership.specs.declared.error.InitializeError.TheVariants.{NotAllowed as IsNotAllowed, NotInMembers as IsNotInMembers};
 ghost use Rattle.raft_group_step.specs.Values.{ChangeMembers, LoggedMembership, after_change, is_voter};
 ghost use Rattle.raft_group_step.specs.StoredGroup.{Snapshot, end_place, membership_in_force, snapshot_last, last_id as last_stored_id};

@@ -1,7 +1,7 @@
 //! Elections: a node stands, asks the others, and counts who grants.
 ghost use Rattle.std.specs.Prelude.{◌≡◌, ◌+◌, ◌<◌, ◌^◌, ◌↔◌, OnOk, IfOk, Ok, Err, None, IsTrue, true, false, List, ℕ, ◌∷◌, []};
 ghost use Rattle.raft_values.specs.LogId.{next_place};
-ghost use Rattle.raft_state.specs.LogIdList.{last_id as last_known_id};
+ghost use Rattle.raft_log_ids.specs.LogIdList.{last_id as last_known_id};
 ghost use Rattle.raft_group_step.specs.StoredGroup.{StoredGroup, end_place, last_id};
 ghost use Rattle.raft_group_step.specs.GroupState.{GroupState, Candidate as Standing, is_candidate};
 ghost use Rattle.raft_group_step.specs.Message.{VoteReply};

@@ -1,7 +1,7 @@
 //! Leading: how a lead begins, and what a leader writes.
 ghost use Rattle.std.specs.Prelude.{◌≡◌, ◌+◌, ◌<◌, ◌^◌, ℕ, OnOk, IfOk, IsTrue, ◌↔◌, true, false, Some, None, List, [], Option};
 ghost use Rattle.raft_values.specs.LogId.{next_place};
-ghost use Rattle.raft_state.specs.LogIdList.{last_id};
+ghost use Rattle.raft_log_ids.specs.LogIdList.{last_id};
 ghost use Rattle.raft_group_step.specs.Values.{ChangeMembers, LoggedMembership, after_change, is_written_by, membership_after};
 ghost use Rattle.std.specs.List.{list_any};
 ghost use Rattle.raft_group_step.specs.StoredGroup.{StoredGroup, end_place, membership_in_force};

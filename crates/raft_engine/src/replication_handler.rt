@@ -2,7 +2,7 @@
 ghost use Rattle.std.specs.Prelude.{◌≡◌, ◌↔◌, ℕ, ◌+◌, ◌-◌, ◌*◌, ◌/◌, ◌^◌, ◌<◌, ◌≤◌, IsTrue, min, nat_le, true, take, drop, length, OnOk, Some};
 ghost use Rattle.std.specs.List.{list_all};
 ghost use Rattle.raft_values.specs.LogId.{next_place};
-ghost use Rattle.raft_state.specs.LogIdList.{last_id};
+ghost use Rattle.raft_log_ids.specs.LogIdList.{last_id};
 ghost use Rattle.raft_group_step.specs.Values.{has_id};
 ghost use Rattle.raft_group_step.specs.StoredGroup.{StoredGroup, end_place, first_place, id_before, membership_in_force, snapshot_last};
 ghost use Rattle.raft_group_step.specs.Message.{Numbered, last_sent, request_id_eq};

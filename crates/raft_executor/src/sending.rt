@@ -21,7 +21,7 @@ use raft_values::vote::votes_by_term_node_committed;
 use std::alloc::{AllocError, Global};
 
 /// The node that sends, as its messages leave (own).
-#[derive(Clone, Copy, Debug)]
+#[derive(Clone, Copy)]
 pub struct Sender {
     /// Its id.
     pub own: u64,

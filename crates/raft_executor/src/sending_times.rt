@@ -10,7 +10,7 @@ use std::collections::BTreeMap;
 
 /// When the last request to each peer left a node, in ticks (own; openraft's replication task knows
 /// it). No message has it, and no answer repeats it.
-#[derive(Debug, Drop)]
+#[derive(Drop)]
 pub struct SendingTimes {
     /// The moments by the peers, once a request has left.
     pub times: Option<BTreeMap<u64, u64>>,

@@ -15,7 +15,7 @@ use raft_wire::{Fed, Feeder, Frame, FrameError};
 use std::alloc::Global;
 
 /// What a piece of a peer's stream did (own).
-#[derive(Debug, Drop)]
+#[derive(Drop)]
 pub enum Outcome {
     /// No frame is whole yet, and the node is as before.
     Waits,
@@ -41,7 +41,7 @@ pub enum AnswerError<F> {
 }
 
 /// What became of a piece (own).
-#[derive(Debug, Drop)]
+#[derive(Drop)]
 pub struct Answer<F> {
     /// How many bytes of the piece were taken.
     pub used: usize,

@@ -9,7 +9,7 @@ use raft_wire::{Frame, FrameError, write_frame};
 use std::alloc::Global;
 
 /// A frame on its way from a node (own).
-#[derive(Debug, Drop)]
+#[derive(Drop)]
 pub struct GroupFrame {
     /// The group.
     pub group: u64,

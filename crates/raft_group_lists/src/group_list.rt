@@ -22,7 +22,7 @@ use std::marker::Model;
 
 /// The list of a group, and what is kept so that it grows event by event (own). Contracts see what is noted; `accounts_of` says
 /// what it stands for.
-#[derive(Debug, Drop)]
+#[derive(Drop)]
 pub struct GroupList {
     alloc: Global,
     voters: VoterGroups<u64>,

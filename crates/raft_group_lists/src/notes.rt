@@ -2,7 +2,7 @@
 use raft_state::{BasicNode, Bytes, Entry, Vote};
 
 /// An entry that a leader had (own).
-#[derive(Debug, Drop)]
+#[derive(Drop)]
 pub struct Noted {
     /// The entry.
     pub entry: Entry<u64, BasicNode, Bytes>,
@@ -13,7 +13,7 @@ pub struct Noted {
 }
 
 /// What a node has accepted under a leader's vote (own).
-#[derive(Debug, Drop)]
+#[derive(Drop)]
 pub struct Reached {
     /// The node.
     pub node: u64,
@@ -22,7 +22,7 @@ pub struct Reached {
 }
 
 /// What is noted under a vote (own).
-#[derive(Debug, Drop)]
+#[derive(Drop)]
 pub struct Lead {
     /// The vote.
     pub vote: Vote<u64>,

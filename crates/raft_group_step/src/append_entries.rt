@@ -8,7 +8,7 @@ use raft_state::{LogId, Node, NodeId, Vote};
 use std::fmt::{self, Display};
 
 /// A leader sends entries, or says what is committed (openraft).
-#[derive(Debug, Drop)]
+#[derive(Drop)]
 pub struct AppendEntriesRequest<NID: NodeId, N: Node, D> {
     /// The leader's vote.
     pub vote: Vote<NID>,
@@ -34,7 +34,7 @@ impl<NID: NodeId, N: Node, D> Display for AppendEntriesRequest<NID, N, D> {
 }
 
 /// What came of an append request (openraft). The frame of an answer repeats the request.
-#[derive(Clone, Copy, Debug, PartialEq, Eq)]
+#[derive(Clone, Copy, PartialEq, Eq)]
 pub enum AppendEntriesResponse<NID: NodeId> {
     /// All entries of the request are in the log.
     Success,

@@ -6,7 +6,7 @@ use std::alloc::{AllocFailed, Global};
 use std::marker::Model;
 
 /// Entries in their order (own). Contracts see them as a list.
-#[derive(Debug, Drop)]
+#[derive(Drop)]
 pub struct Entries<NID: NodeId, N: Node, D> {
     items: Vec<Entry<NID, N, D>>,
 }

@@ -3,7 +3,7 @@ use raft_state::{ChangeMembers, Membership, Node, NodeId};
 
 /// What a node is asked for in a group (own). A token names a command or change: it is told with
 /// its place once that is applied.
-#[derive(Debug, Drop)]
+#[derive(Drop)]
 pub enum GroupCall<NID: NodeId, N: Node, D> {
     /// The group is set up with this membership.
     Initialize {

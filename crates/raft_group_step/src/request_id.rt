@@ -3,7 +3,7 @@ use std::fmt::{self, Display};
 
 /// Which request a message or its reply is about (openraft). Numbers rise by one for each peer
 /// from 1.
-#[derive(Clone, Copy, Debug, PartialEq, Eq)]
+#[derive(Clone, Copy, PartialEq, Eq)]
 pub enum RequestId {
     /// A notice or heartbeat: the leader doesn't wait for its reply.
     HeartBeat,

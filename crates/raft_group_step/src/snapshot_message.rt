@@ -5,7 +5,7 @@ use raft_state::{Bytes, LogId, Membership, Node, NodeId, Vote};
 use std::fmt::{self, Display};
 
 /// A membership, with the log id of the entry that has it (own).
-#[derive(Debug, Drop)]
+#[derive(Drop)]
 pub struct LoggedMembership<NID: NodeId, N: Node> {
     /// The log id of the entry.
     pub log_id: LogId<NID>,
@@ -14,7 +14,7 @@ pub struct LoggedMembership<NID: NodeId, N: Node> {
 }
 
 /// What a snapshot covers (openraft, without an id of its own: the last log id names it).
-#[derive(Debug, Drop)]
+#[derive(Drop)]
 pub struct SnapshotMeta<NID: NodeId, N: Node> {
     /// The log id of the last entry in the snapshot.
     pub last_log_id: LogId<NID>,
@@ -30,7 +30,7 @@ impl<NID: NodeId, N: Node> Display for SnapshotMeta<NID, N> {
 }
 
 /// A leader sends its snapshot, whole (openraft, without chunks).
-#[derive(Debug, Drop)]
+#[derive(Drop)]
 pub struct InstallSnapshotRequest<NID: NodeId, N: Node> {
     /// The leader's vote.
     pub vote: Vote<NID>,
@@ -50,7 +50,7 @@ impl<NID: NodeId, N: Node> Display for InstallSnapshotRequest<NID, N> {
 }
 
 /// A node answers a whole snapshot with the vote that it has then (openraft).
-#[derive(Clone, Copy, Debug, PartialEq, Eq)]
+#[derive(Clone, Copy, PartialEq, Eq)]
 pub struct SnapshotResponse<NID: NodeId> {
     /// The vote that the node has then.
     pub vote: Vote<NID>,
@@ -66,7 +66,7 @@ impl<NID: NodeId> SnapshotResponse<NID> {
 }
 
 /// A node answers a request to install a snapshot with the vote that it has then (openraft).
-#[derive(Clone, Copy, Debug, PartialEq, Eq)]
+#[derive(Clone, Copy, PartialEq, Eq)]
 pub struct InstallSnapshotResponse<NID: NodeId> {
     /// The vote that the node has then.
     pub vote: Vote<NID>,

@@ -6,7 +6,7 @@ use raft_state::{LogId, NodeId, Vote};
 use std::fmt::{self, Display};
 
 /// A candidate asks for a vote (openraft).
-#[derive(Clone, Copy, Debug, PartialEq, Eq)]
+#[derive(Clone, Copy, PartialEq, Eq)]
 pub struct VoteRequest<NID: NodeId> {
     /// The vote that is asked for.
     pub vote: Vote<NID>,
@@ -32,7 +32,7 @@ impl<NID: NodeId> Display for VoteRequest<NID> {
 }
 
 /// A node answers a candidate (openraft).
-#[derive(Clone, Copy, Debug, PartialEq, Eq)]
+#[derive(Clone, Copy, PartialEq, Eq)]
 pub struct VoteResponse<NID: NodeId> {
     /// The vote that the node has then.
     pub vote: Vote<NID>,

@@ -10,7 +10,7 @@ use raft_stored_group::{GroupSnapshot, StoredGroup};
 use std::alloc::{AllocError, Global};
 
 /// What is stored of a group, but for what its snapshot has (own).
-#[derive(Debug, Drop)]
+#[derive(Drop)]
 pub struct LoadedGroup {
     /// Whether the node has the group.
     pub present: bool,

@@ -18,7 +18,7 @@ use std::marker::Model;
 
 /// Groups by their ids (own). Contracts see a list of pairs, an id and what is stored of its group.
 /// Of an id that isn't there nothing is stored.
-#[derive(Debug, Drop)]
+#[derive(Drop)]
 pub struct PlainGroups {
     alloc: Global,
     groups: BTreeMap<u64, StoredGroup>,

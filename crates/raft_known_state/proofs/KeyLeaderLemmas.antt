@@ -11,8 +11,8 @@ use Rattle.raft_membership.proofs.FaultLemmas.{and_true}
 use Rattle.raft_values.specs.declared.vote.LeaderId.{LeaderId}
 use Rattle.raft_values.specs.declared.log_id.LogId.{LogId}
 use Rattle.raft_values.specs.LogId.{next_place}
-use Rattle.raft_state.proofs.KeyEndLemmas.{end_above}
-use Rattle.raft_state.specs.LogIdList.{leader_ids, end_of_key, ids_of, IsBelowNext, PlacesRise}
+use Rattle.raft_log_ids.proofs.KeyEndLemmas.{end_above}
+use Rattle.raft_log_ids.specs.LogIdList.{leader_ids, end_of_key, ids_of, IsBelowNext, PlacesRise}
 use Rattle.raft_group_step.specs.Values.{Entry, leader_eq, is_written_by}
 use Rattle.raft_group_step.specs.StoredGroup.{StoredGroup, first_place}
 use Rattle.raft_known_state.specs.KnownState.{ArePlaced, IsPlaced, entry_ids, purged_ids, stored_ids, is_of_leader_from, stands_under}

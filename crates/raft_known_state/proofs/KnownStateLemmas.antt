@@ -11,7 +11,7 @@ use Rattle.raft_values.specs.declared.log_id.LogId.{LogId}
 use Rattle.raft_values.specs.LogId.{next_place, place_of}
 use Rattle.raft_values.specs.LogIndex.{next_of}
 use Rattle.raft_state.specs.declared.raft_state.RaftState.{RaftState}
-use Rattle.raft_state.specs.LogIdList.{last_id, id_at, extended, truncated, purged, or_alone}
+use Rattle.raft_log_ids.specs.LogIdList.{last_id, id_at, extended, truncated, purged, or_alone}
 use Rattle.raft_state.specs.State.{last_purged}
 use Rattle.raft_state.specs.declared.entry.EntryPayload.TheVariants.{Blank, Normal, Membership as Members}
 use Rattle.raft_state.specs.Payload.{membership_of}

@@ -6,9 +6,9 @@ use Rattle.std.proofs.lemmas.Bool.Decides.{nat_tests}
 use Rattle.raft_values.specs.declared.vote.LeaderId.{LeaderId}
 use Rattle.raft_values.specs.declared.log_id.LogId.{LogId}
 use Rattle.raft_values.specs.LogId.{next_place}
-use Rattle.raft_state.specs.LogIdList.{ids_of, leader_ids, PlacesRise}
+use Rattle.raft_log_ids.specs.LogIdList.{ids_of, leader_ids, PlacesRise}
 use Rattle.raft_state.specs.declared.entry.EntryPayload.TheVariants.{Blank, Normal, Membership as Members}
-use Rattle.raft_state.proofs.LogIdLemmas.{leader_ids-first, leader_ids-none}
+use Rattle.raft_log_ids.proofs.LogIdLemmas.{leader_ids-first, leader_ids-none}
 use Rattle.raft_group_step.specs.Values.{Entry, EntryPayload}
 use Rattle.raft_group_step.specs.StoredGroup.{StoredGroup}
 use Rattle.raft_known_state.specs.KnownState.{AreInOrder, EffectiveMembership, drop_below, entry_ids, is_below, memberships_in, purged_ids, stored_ids, take_below, with_membership_of}

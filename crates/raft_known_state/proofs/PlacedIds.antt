@@ -5,7 +5,7 @@ use Rattle.std.proofs.Common.{⊎_elim, sym, ap, ◌∙◌, subst, arith, append
 use Rattle.std.proofs.lemmas.Bool.{cases_lt}
 use Rattle.std.proofs.lemmas.Bool.Decides.{nat_tests}
 use Rattle.raft_values.specs.declared.log_id.LogId.{LogId}
-use Rattle.raft_state.specs.LogIdList.{last_id, id_at, ids_between, appended, extended, truncated, from_place}
+use Rattle.raft_log_ids.specs.LogIdList.{last_id, id_at, ids_between, appended, extended, truncated, from_place}
 
 -- the one is below the other, or not
 pub by_order : {P : Type 0} (a b : ℕ) → (a < b → P) → (b ≤ a → P) → P

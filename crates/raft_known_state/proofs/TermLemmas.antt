@@ -4,8 +4,8 @@ use Rattle.std.specs.List.{slice_get}
 use Rattle.std.proofs.lemmas.Bool.Decides.{nat_tests}
 use Rattle.raft_values.specs.declared.log_id.LogId.{LogId}
 use Rattle.raft_values.specs.declared.vote.LeaderId.{LeaderId}
-use Rattle.raft_state.specs.LogIdList.{PlacesRise, last_id}
-use Rattle.raft_state.proofs.LogIdListLemmas.{last_id-cons}
+use Rattle.raft_log_ids.specs.LogIdList.{PlacesRise, last_id}
+use Rattle.raft_log_ids.proofs.LogIdListLemmas.{last_id-cons}
 use Rattle.raft_group_step.specs.Values.{Entry}
 use Rattle.raft_known_state.specs.KnownState.{AreUpToTerm, entry_ids, ids_of_leader}
 

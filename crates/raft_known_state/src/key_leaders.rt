@@ -2,7 +2,7 @@
 ghost use Rattle.std.specs.Prelude.{◌≡◌};
 ghost use Rattle.std.specs.Option.{option_copied};
 ghost use Rattle.std.specs.List.{list_any};
-ghost use Rattle.raft_state.specs.LogIdList.{PlacesRise, ids_of};
+ghost use Rattle.raft_log_ids.specs.LogIdList.{PlacesRise, ids_of};
 ghost use Rattle.raft_known_state.specs.KnownState.{is_of_leader_from, stands_under};
 
 use raft_state::{LeaderId, LogId};

@@ -2,7 +2,7 @@
 ghost use Rattle.std.specs.Prelude.{◌≡◌, ◌≤◌, ◌<◌, ◌+◌, ◌^◌, ◌++◌, ◌⊎◌, OnOk, IfOk, Some, None, ℕ, length, take, drop, [], false};
 ghost use Rattle.std.specs.Ordering.{nat_cmp};
 ghost use Rattle.raft_values.specs.LogId.{next_place};
-ghost use Rattle.raft_state.specs.LogIdList.{AllGoOn, PlacesRise, ids_of, last_id};
+ghost use Rattle.raft_log_ids.specs.LogIdList.{AllGoOn, PlacesRise, ids_of, last_id};
 ghost use Rattle.raft_group_step.specs.StoredGroup.{StoredGroup, Snapshot, CutFrom, PutEntries, RemoveUpTo, SetSnapshot, SetVote, after_storing};
 ghost use Rattle.raft_group_step.specs.StoredGroup.{end_place, first_place, has_id_in_log, id_at as id_at_place, last_id as last_stored_id, entry_at};
 ghost use Rattle.raft_group_step.specs.StoredGroup.{membership_in_force};
@@ -28,7 +28,7 @@ use std::alloc::{AllocError, Global};
 
 /// What a node knows of its stored group (openraft's state of a group; the memberships of the
 /// whole log are own: a log that is shortened may have more than one that isn't committed).
-#[derive(Debug, Drop)]
+#[derive(Drop)]
 pub struct KnownState<NID: NodeId, N: Node> {
     /// What openraft keeps: vote, log ids, places, snapshot.
     pub state: RaftState<NID, N, u64>,

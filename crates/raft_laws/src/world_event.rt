@@ -3,7 +3,7 @@ use raft_group_step::GroupCall;
 use raft_state::{BasicNode, Bytes};
 
 /// What may happen to a group's nodes (own). Moments are ticks.
-#[derive(Debug, Drop)]
+#[derive(Drop)]
 pub enum WorldEvent {
     /// The group is added at a node.
     Add {

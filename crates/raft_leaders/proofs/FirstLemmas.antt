@@ -5,9 +5,9 @@ use Rattle.std.proofs.Math.Bool.{true≢false}
 use Rattle.raft_values.specs.declared.vote.LeaderId.{LeaderId}
 use Rattle.raft_values.specs.declared.log_id.LogId.{LogId}
 use Rattle.raft_values.specs.LogId.{next_place}
-use Rattle.raft_state.specs.LogIdList.{IsBelowNext, PlacesRise, end_of_key, ids_of, leader_ids}
-use Rattle.raft_state.proofs.LogIdLemmas.{leader_ids-first, leader_ids-none}
-use Rattle.raft_state.proofs.LogIdListLemmas.{last_id-cons}
+use Rattle.raft_log_ids.specs.LogIdList.{IsBelowNext, PlacesRise, end_of_key, ids_of, leader_ids}
+use Rattle.raft_log_ids.proofs.LogIdLemmas.{leader_ids-first, leader_ids-none}
+use Rattle.raft_log_ids.proofs.LogIdListLemmas.{last_id-cons}
 use Rattle.raft_leaders.specs.Leader.{end_of, first_log_id, id_of_leader, is_of_leader}
 use Rattle.raft_leaders.specs.Accepted.{WroteNoneBelow}
 use Rattle.raft_leaders.proofs.OwnLemmas.{RisesFrom, full_rises}

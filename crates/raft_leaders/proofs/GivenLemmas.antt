@@ -3,8 +3,8 @@ use Rattle.std.proofs.Common.{◌≡◌, ℕ, zero, suc, ◌+◌, ◌<◌, ◌�
 use Rattle.std.proofs.Math.ListN.{set}
 use Rattle.raft_values.specs.declared.vote.LeaderId.{LeaderId}
 use Rattle.raft_values.specs.declared.log_id.LogId.{LogId}
-use Rattle.raft_state.specs.LogIdList.{leader_ids}
-use Rattle.raft_state.proofs.LogIdLemmas.{leader_ids-none, leader_ids-first}
+use Rattle.raft_log_ids.specs.LogIdList.{leader_ids}
+use Rattle.raft_log_ids.proofs.LogIdLemmas.{leader_ids-none, leader_ids-first}
 use Rattle.raft_leaders.specs.Leader.{id_of_leader, with_log_ids}
 
 module _ {K X : Type 0} (with_id : X → LogId K → X) (leader : LeaderId K) where

@@ -5,10 +5,10 @@ use Rattle.std.specs.List.{AllByRecursion, last_or}
 use Rattle.raft_values.specs.declared.vote.LeaderId.{LeaderId}
 use Rattle.raft_values.specs.declared.log_id.LogId.{LogId}
 use Rattle.raft_values.specs.LogId.{next_place}
-use Rattle.raft_state.specs.LogIdList.{IsBelowNext, end_of_key, ids_of, last_id, leader_ids, PlacesRise}
-use Rattle.raft_state.proofs.KeyEndLemmas.{end_above}
-use Rattle.raft_state.proofs.LogIdLemmas.{leader_ids-first, leader_ids-none}
-use Rattle.raft_state.proofs.LogIdListLemmas.{final, last_id-cons, last_id-ids_of}
+use Rattle.raft_log_ids.specs.LogIdList.{IsBelowNext, end_of_key, ids_of, last_id, leader_ids, PlacesRise}
+use Rattle.raft_log_ids.proofs.KeyEndLemmas.{end_above}
+use Rattle.raft_log_ids.proofs.LogIdLemmas.{leader_ids-first, leader_ids-none}
+use Rattle.raft_log_ids.proofs.LogIdListLemmas.{final, last_id-cons, last_id-ids_of}
 use Rattle.std.proofs.lemmas.Bool.{and_right, le-leb}
 use Rattle.std.proofs.lemmas.Bool.Decides.{leb_tells}
 use Rattle.std.proofs.lemmas.List.{append-nil, drop_more}

@@ -5,7 +5,7 @@ use Rattle.raft_values.specs.declared.vote.Vote.{Vote}
 use Rattle.raft_values.specs.declared.vote.LeaderId.{LeaderId}
 use Rattle.raft_values.specs.declared.log_id.LogId.{LogId}
 use Rattle.raft_values.specs.LogId.{next_place}
-use Rattle.raft_state.specs.LogIdList.{last_id}
+use Rattle.raft_log_ids.specs.LogIdList.{last_id}
 use Rattle.raft_quorums.specs.Nodes.{has_id}
 use Rattle.raft_progress.specs.declared.inflight.Inflight.TheVariants.{None as Nothing}
 use Rattle.raft_progress.specs.declared.progress_entry.ProgressEntry.{ProgressEntry}

@@ -1,7 +1,7 @@
 //! What a leader may commit.
 ghost use Rattle.std.specs.Prelude.{◌≡◌, ℕ, ◌<◌, ◌≤◌, ◌^◌, max};
 ghost use Rattle.std.specs.List.{AllByRecursion};
-ghost use Rattle.raft_state.specs.LogIdList.{IsBelowNext, end_of_key, leader_ids};
+ghost use Rattle.raft_log_ids.specs.LogIdList.{IsBelowNext, end_of_key, leader_ids};
 ghost use Rattle.raft_leaders.specs.Accepted.{IsAcceptedEnd, WroteNoneWithin, greatest_accepted, has_accepted, last_own_within};
 ghost use Rattle.raft_leaders.specs.Leader.{end_of};
 

@@ -17,7 +17,7 @@ use std::marker::Model;
 /// A node that stands for election: its vote, and who has granted it (openraft; that it keeps the
 /// ids of those who are no voters too is own). Contracts see its fields, and the progress as its
 /// parts.
-#[derive(Debug, Drop)]
+#[derive(Drop)]
 pub struct Candidate<NID: NodeId, QS: QuorumSet<NID>> {
     starting_time: u64,
     vote: Vote<NID>,

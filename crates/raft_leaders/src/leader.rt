@@ -5,7 +5,7 @@ ghost use Rattle.std.specs.List.{find, list_any};
 ghost use Rattle.std.specs.Option.{option_cmp, option_copied};
 ghost use Rattle.std.specs.Ordering.{nat_cmp};
 ghost use Rattle.raft_values.specs.LogId.{next_place};
-ghost use Rattle.raft_state.specs.LogIdList.{last_id, leader_ids};
+ghost use Rattle.raft_log_ids.specs.LogIdList.{last_id, leader_ids};
 ghost use Rattle.raft_quorums.specs.Nodes.{has_id};
 ghost use Rattle.raft_progress.specs.Counted.{IsCounted};
 ghost use Rattle.raft_progress.specs.Granted.{IsGranted};
@@ -21,7 +21,7 @@ use std::marker::Model;
 
 /// A node that leads: the log ids that it gives, what it knows of each peer, and when it heard of
 /// each (openraft). Contracts see its fields, and each progress as its parts.
-#[derive(Debug, Drop)]
+#[derive(Drop)]
 pub struct Leader<NID: NodeId, QS: QuorumSet<NID>> {
     vote: Vote<NID>,
     last_log_id: Option<LogId<NID>>,
@@ -348,13 +348,21 @@ impl<NID: NodeId, QS: QuorumSet<NID> + Clone + Drop> Leader<NID, QS> {
     }
 }
 
+/// Writes what stands first of a lead: its vote and the last log id.
+fn write_head<NID: NodeId, W: fmt::Write>(
+    vote: &Vote<NID>,
+    last_log_id: &Option<LogId<NID>>,
+    f: &mut fmt::Formatter<W>,
+) -> fmt::Result {
+    match last_log_id {
+        None => write!(f, "{{vote:{vote}, last_log_id:None, "),
+        Some(last) => write!(f, "{{vote:{vote}, last_log_id:{last}, "),
+    }
+}
+
 impl<NID: NodeId, QS: QuorumSet<NID> + Drop> Display for Leader<NID, QS> {
     fn fmt<W: fmt::Write>(&self, f: &mut fmt::Formatter<W>) -> fmt::Result {
-        let vote = self.vote_ref();
-        match self.last_log_id {
-            None => write!(f, "{{vote:{vote}, last_log_id:None, ")?,
-            Some(last) => write!(f, "{{vote:{vote}, last_log_id:{last}, ")?,
-        }
+        write_head(&self.vote, &self.last_log_id, f)?;
         let first = self.noop_log_id();
         let progress = self.progress();
         write!(f, "noop_log_id:{first}, progress:{progress}}}")

@@ -5,8 +5,8 @@ use Rattle.std.proofs.Common.{sym, ap, ◌∙◌, arith, get_or}
 use Rattle.std.proofs.lemmas.Option.{slice_get_past}
 use Rattle.raft_values.specs.declared.vote.LeaderId.{LeaderId}
 use Rattle.raft_values.specs.declared.log_id.LogId.{LogId}
-use Rattle.raft_state.proofs.KeyEndLemmas.{end_above}
-use Rattle.raft_state.specs.LogIdList.{leader_ids, end_of_key, ids_of, IsBelowNext, PlacesRise}
+use Rattle.raft_log_ids.proofs.KeyEndLemmas.{end_above}
+use Rattle.raft_log_ids.specs.LogIdList.{leader_ids, end_of_key, ids_of, IsBelowNext, PlacesRise}
 use Rattle.raft_group_step.specs.Values.{leader_eq}
 use Rattle.raft_list_facts.specs.Leads.{before_own}
 use Rattle.raft_list_facts.specs.declared.leading.Base.{Base}

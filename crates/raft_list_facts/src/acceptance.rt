@@ -8,7 +8,7 @@ use raft_messages::{MessageBody, ReplyFields, ReplyResult};
 use raft_state::{LogId, Vote};
 
 /// What a message accepts (own): under a vote, all up to a log id.
-#[derive(Clone, Copy, Debug, PartialEq, Eq)]
+#[derive(Clone, Copy, PartialEq, Eq)]
 pub struct Acceptance {
     /// The vote.
     pub vote: Vote<u64>,

@@ -2,14 +2,14 @@
 ghost use Rattle.std.specs.Prelude.{◌≡◌};
 ghost use Rattle.raft_group_step.specs.StoredGroup.{StoredGroup};
 ghost use Rattle.raft_known_state.specs.KnownState.{Knows};
-ghost use Rattle.raft_state.specs.LogIdList.{PlacesRise, ids_of};
+ghost use Rattle.raft_log_ids.specs.LogIdList.{PlacesRise, ids_of};
 ghost use Rattle.raft_list_facts.specs.Leads.{base_of, before_all, before_own};
 
 use raft_known_state::KnownState;
 use raft_state::{BasicNode, LeaderId, LogId, Vote};
 
 /// What a leader took over (own): the list before its first own entry.
-#[derive(Clone, Copy, Debug, PartialEq, Eq)]
+#[derive(Clone, Copy, PartialEq, Eq)]
 pub enum Base {
     /// Nothing: its first entry is the first of all.
     Nothing,
@@ -20,7 +20,7 @@ pub enum Base {
 }
 
 /// A node that leads a group (own).
-#[derive(Clone, Copy, Debug, PartialEq, Eq)]
+#[derive(Clone, Copy, PartialEq, Eq)]
 pub struct Leading {
     /// Its vote.
     pub vote: Vote<u64>,

@@ -4,7 +4,7 @@ use raft_quorums::voter_groups::VoterGroups;
 use raft_state::{BasicNode, Bytes, EntryPayload, Membership};
 
 /// The set-up of a group (own).
-#[derive(Debug, Drop)]
+#[derive(Drop)]
 pub struct SetUp {
     /// The first membership.
     pub membership: Membership<u64, BasicNode>,
@@ -13,7 +13,7 @@ pub struct SetUp {
 }
 
 /// What is heard of an event in a group (own).
-#[derive(Debug, Drop)]
+#[derive(Drop)]
 pub struct GroupReport {
     /// The node at which the event happened.
     pub node: u64,

@@ -54,7 +54,7 @@ fn older(file: Option<FileSeq>, other: Option<FileSeq>, mark: FileSeq) -> Option
 }
 
 /// How many entries of a group lie where.
-#[derive(Clone, Copy, Debug, PartialEq, Eq)]
+#[derive(Clone, Copy, PartialEq, Eq)]
 pub(crate) struct Counts {
     /// In the rewrite queue.
     pub(crate) rewritten: u64,

@@ -29,7 +29,7 @@ use raft_log_traced::TracedTables;
 use std::alloc::Global;
 
 /// How much of the log is cleaned.
-#[derive(Clone, Copy, Debug, PartialEq, Eq)]
+#[derive(Clone, Copy, PartialEq, Eq)]
 pub enum Extent {
     /// All that is written to the append queue.
     All,

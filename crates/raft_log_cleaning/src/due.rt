@@ -18,7 +18,7 @@ use raft_log_traced::TracedTables;
 use std::alloc::AllocError;
 
 /// Which queues are due.
-#[derive(Clone, Copy, Debug, PartialEq, Eq)]
+#[derive(Clone, Copy, PartialEq, Eq)]
 pub struct Due {
     /// The rewrite queue is to be written anew.
     pub rewrites: bool,

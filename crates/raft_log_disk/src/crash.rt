@@ -7,14 +7,14 @@ use crate::FileSystem;
 use std::alloc::AllocError;
 
 /// The bytes that a crash leaves of one file.
-#[derive(Debug, Drop)]
+#[derive(Drop)]
 pub struct FileBytes {
     pub path: String,
     pub bytes: Vec<u8>,
 }
 
 /// What a crash leaves.
-#[derive(Debug, Drop)]
+#[derive(Drop)]
 pub enum CrashChoice {
     /// Of each file the bytes of its last sync or crash, as far as the least length since.
     Least,

@@ -1,52 +1,36 @@
-//! Cleanings that are refused at each changing call of the files in turn, and what is found then.
+//! Cleanings of an engine.
 
-use crate::calls::cleaned;
-use crate::reopening::opened_as;
-use crate::stops::{Plan, found_behind, told_of};
+use crate::session::{Desk, MemoryEngine};
 use raft_log_engine::EngineFault;
-use raft_log_files::MemoryFileSystem;
 use raft_log_records::LogQueue;
-use std::alloc::Global;
 
-/// Whether a cleaning was `Ok`, the numbers of the queue's first file and of its last one behind it, and
-/// which batches are found once the files were crashed and opened again.
-pub type Cleaning = (bool, u64, u64, Option<Vec<u64>>);
-
-/// Cleans a queue of a log whose files refuse the changing call of this number behind the writes. Where
-/// the rewrite queue is written anew, all stands there before.
-fn cleaned_at(
-    alloc: Global,
-    plan: Plan,
-    queue: LogQueue,
-    call: u64,
-) -> Result<Cleaning, EngineFault> {
-    let files = MemoryFileSystem::new(alloc);
-    let mut engine = opened_as(files, alloc, plan.target_size, plan.mode)?;
-    let _ = told_of(&mut engine, alloc, plan.count);
-    if queue == LogQueue::Rewrite {
-        engine.clean_append_queue(None)?;
+/// Cleans both queues where they are due: the groups that are told to compact, and whether an
+/// append file went.
+pub fn expire(engine: &mut MemoryEngine, desk: &mut Desk) -> Result<(Vec<u64>, bool), EngineFault> {
+    let (before, _) = engine.file_span(LogQueue::Append);
+    let told = engine.purge_expired_files_with(&mut desk.hooks);
+    let (behind, _) = engine.file_span(LogQueue::Append);
+    match told {
+        Ok(groups) => Ok((groups, before < behind)),
+        Err(fault) => Err(fault),
     }
-    engine.set_fuse(Some(call));
-    let is_clean = cleaned(&mut engine, queue).is_ok();
-    let (first, last) = engine.file_span(queue);
-    let found = found_behind(engine.abandon(), alloc, plan)?;
-    Ok((is_clean, first, last, found))
 }
 
-/// Refuses a cleaning at its first changing call, at its second one, and so on, until it isn't refused.
-pub fn cleanings_of(
-    alloc: Global,
-    plan: Plan,
-    queue: LogQueue,
-) -> Result<Vec<Cleaning>, EngineFault> {
-    let mut cleanings = Vec::new(alloc);
-    for call in 1..1000u64 {
-        let cleaning = cleaned_at(alloc, plan, queue, call)?;
-        let is_last = cleaning.0;
-        cleanings.push(cleaning)?;
-        if is_last {
-            break;
+/// Takes a step: `tidy` cleans the append queue, `anew` writes the rewrite queue anew, `expire`
+/// cleans both where they are due, `stale` lets go what nothing needs, and `sync` syncs.
+pub fn clean(engine: &mut MemoryEngine, desk: &mut Desk, parts: &[&str]) -> bool {
+    match parts {
+        ["tidy"] => {
+            let cleaned = engine.clean_append_queue_with(&mut desk.hooks);
+            desk.told.done("Tidied", cleaned)
         }
+        ["anew"] => desk.told.done("Rewritten", engine.clean_rewrite_queue()),
+        ["expire"] => {
+            let expired = expire(engine, desk);
+            desk.told.value("Cleaned", expired)
+        }
+        ["stale"] => desk.told.value("Went", engine.must_purge_all_stale(None)),
+        ["sync"] => desk.told.done("Synced", engine.sync()),
+        _ => false,
     }
-    Ok(cleanings)
 }

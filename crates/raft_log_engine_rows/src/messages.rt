@@ -11,14 +11,7 @@ const MAX_TEXT_LEN: usize = 3;
 /// A message that is its own bytes.
 #[derive(PartialEq, Drop)]
 pub struct Text {
-    bytes: Vec<u8>,
-}
-
-impl Text {
-    /// Its bytes.
-    pub fn bytes(&self) -> &[u8] {
-        &self.bytes
-    }
+    pub bytes: Vec<u8>,
 }
 
 impl Message for Text {

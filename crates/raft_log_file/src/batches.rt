@@ -23,7 +23,7 @@ use std::alloc::Global;
 const RECORD_HEAD_LEN: u64 = 8;
 
 /// A batch that was read from a log file.
-#[derive(Debug, Drop)]
+#[derive(Drop)]
 pub struct ReadBatch {
     pub batch: LogItemBatch,
     /// Where the entries stand in the file, with their checksum. Without entries it has no bytes.
@@ -35,7 +35,7 @@ pub struct ReadBatch {
 }
 
 /// A log file whose batches are read.
-#[derive(Clone, Copy, Debug, PartialEq, Eq)]
+#[derive(Clone, Copy, PartialEq, Eq)]
 pub struct OpenFile {
     pub(crate) id: FileId,
     pub(crate) format: LogFileFormat,
@@ -44,7 +44,7 @@ pub struct OpenFile {
 
 /// Reads the batches of a log file in turn (raft-engine's `LogItemBatchFileReader`), by blocks of
 /// the file: it never holds more of it than a block or a record, whichever is longer.
-#[derive(Debug, Drop)]
+#[derive(Drop)]
 pub struct LogItemBatchFileReader {
     pub(crate) file: Option<OpenFile>,
     /// The bytes that a read of the file asks for at least.

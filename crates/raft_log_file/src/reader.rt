@@ -10,7 +10,7 @@ use std::alloc::Global;
 
 /// Reads one log file (raft-engine's `LogFileReader`). Its file is named by a number, and the file
 /// system is passed to each call.
-#[derive(Clone, Copy, Debug, PartialEq, Eq)]
+#[derive(Clone, Copy, PartialEq, Eq)]
 pub struct LogFileReader {
     pub(crate) fd: Fd,
 }

@@ -15,7 +15,7 @@ pub const FILE_ALLOCATE_SIZE: u64 = 2_097_152;
 
 /// Writes one log file from its end on (raft-engine's `LogFileWriter`). Its file is named by a
 /// number, and the file system is passed to each call.
-#[derive(Debug, Drop)]
+#[derive(Drop)]
 pub struct LogFileWriter {
     pub(crate) fd: Fd,
     /// The bytes that were written.

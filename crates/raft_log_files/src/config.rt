@@ -27,7 +27,7 @@ pub(crate) const DEFAULT_GARBAGE_PERCENT: u64 = 60;
 const MAX_FILE_CAPACITY: u64 = 4_294_967_295;
 
 /// The settings of the log engine (raft-engine's `Config`).
-#[derive(Debug, PartialEq, Drop)]
+#[derive(PartialEq, Drop)]
 pub struct Config {
     /// The main directory of the log files; an opening makes it if it isn't there.
     pub dir: String,

@@ -15,7 +15,7 @@ pub enum RecoveryMode {
 }
 
 /// How one queue is recovered (raft-engine's `RecoveryConfig`).
-#[derive(Clone, Copy, Debug, PartialEq, Eq)]
+#[derive(Clone, Copy, PartialEq, Eq)]
 pub struct RecoveryConfig {
     pub queue: LogQueue,
     pub mode: RecoveryMode,

@@ -25,7 +25,7 @@ fn hole_before(last: u64, first: u64) -> Option<u64>
 }
 
 /// What is written of a group's entries, as far as holes go.
-#[derive(Clone, Copy, Debug, PartialEq, Eq)]
+#[derive(Clone, Copy, PartialEq, Eq)]
 pub(crate) struct Span {
     /// The index at which the first entries begin.
     pub first: u64,

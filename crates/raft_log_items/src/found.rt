@@ -9,7 +9,7 @@ use raft_log_records::{FileId, LogQueue};
 use std::alloc::{AllocError, Global};
 
 /// A log file that isn't read yet.
-#[derive(Debug, Drop)]
+#[derive(Drop)]
 pub(crate) struct LogFile {
     pub id: FileId,
     pub path: String,

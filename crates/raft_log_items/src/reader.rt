@@ -18,7 +18,7 @@ const READ_BLOCK_SIZE: u64 = 16384;
 
 /// Reads the items of log files in turn (raft-engine's `LogItemReader`): file by file, batch by
 /// batch. It holds a block of a file and a batch, never a file.
-#[derive(Debug, Drop)]
+#[derive(Drop)]
 pub struct LogItemReader {
     /// The files that aren't read yet.
     pub(crate) files: VecDeque<LogFile>,

@@ -18,7 +18,7 @@ use crate::memtables::MemTables;
 use raft_log_records::{Command, EntryIndex, LogItem, LogItemContent};
 
 /// What a search for entries between two indexes comes to at an item.
-#[derive(Clone, Copy, Debug)]
+#[derive(Clone, Copy)]
 enum Search {
     /// The item has one of them.
     Found,

@@ -1,10 +1,9 @@
 -- A file that goes and is kept for reuse: it gets the next reserved name.
-use Rattle.std.proofs.Common.{◌≡◌, ◌≢◌, ◌⊎◌, inl, inr, ⊎_elim, ℕ, ◌+◌, ◌<◌, zero, suc, Bool, true, false, cond, nat_lt, List, [], ◌∷◌, ◌++◌, length, get_or, take, drop, map, Option, Some, None, refl, sym, ap, subst, ◌∙◌, arith, length-drop, take-append-drop}
+use Rattle.std.proofs.Common.{◌≡◌, ◌≢◌, ◌⊎◌, inl, inr, ⊎_elim, ℕ, ◌+◌, ◌<◌, zero, suc, Bool, true, false, cond, List, [], ◌∷◌, ◌++◌, length, get_or, take, drop, map, Option, Some, None, refl, sym, ap, subst, ◌∙◌, arith, length-drop, take-append-drop}
 use Rattle.std.specs.Prelude.{Result, Ok, Err, OnOk, String, Vec, codes, is_some, not, remove, ◌==◌, ◌||◌}
 use Rattle.std.specs.String.{string_bytes}
-use Rattle.std.specs.List.{AllByRecursion, list_all}
+use Rattle.std.specs.List.{AllByRecursion}
 use Rattle.std.specs.declared.alloc.Global.{Global}
-use Rattle.std.proofs.lemmas.Bool.{and_parts, ltb-true, ne_eqb}
 use Rattle.std.proofs.lemmas.List.{append-nil, append_assoc, length-map}
 use Rattle.std.proofs.lemmas.List.Folds.{list_any-append}
 use lib.Pointwise.{bytes_decides}
@@ -14,7 +13,7 @@ use Rattle.raft_log_records.specs.declared.file_id.LogQueue.TheVariants.{Append}
 use Rattle.raft_log_records.specs.declared.version.Version.TheVariants.{V2}
 use Rattle.raft_log_disk.specs.Text.{Text, has_slash, name_in, same_text}
 use Rattle.raft_log_disk.specs.Disk.{Disk, HasDirectory, IsIn, IsNamed, IsNoMove, Renames, fd_of, moved, renamed}
-use Rattle.raft_log_disk.specs.Name.{is_digit, log_file_of}
+use Rattle.raft_log_disk.specs.Name.{log_file_of}
 use Rattle.raft_log_disk.proofs.DiskLemmas.{moved_gone, moved_other, other_file, same_file}
 use Rattle.raft_log_disk.proofs.NameLemmas.{moved_there}
 use Rattle.raft_log_disk.proofs.TextLemmas.{in_directory}

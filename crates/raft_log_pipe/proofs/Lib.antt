@@ -24,3 +24,4 @@ pub mod TakenLemmas
 pub mod LostLemmas
 pub mod CausedLemmas
 pub mod RestLemmas
+pub mod EndLemmas

@@ -21,7 +21,7 @@ use std::alloc::Global;
 pub type Paths = Vec<String>;
 
 /// A file of a pipe (raft-engine's `File`).
-#[derive(Clone, Copy, Debug, PartialEq, Eq)]
+#[derive(Clone, Copy, PartialEq, Eq)]
 pub struct File {
     pub seq: FileSeq,
     pub handle: Fd,
@@ -33,7 +33,7 @@ pub struct File {
 }
 
 /// A file that is kept for reuse, under a reserved name.
-#[derive(Clone, Copy, Debug, PartialEq, Eq)]
+#[derive(Clone, Copy, PartialEq, Eq)]
 pub struct ReservedFile {
     /// The number in its name.
     pub seq: FileSeq,

@@ -17,7 +17,7 @@ use std::alloc::Global;
 
 /// The log files of one queue, in order (raft-engine's `SinglePipe`). The file system is passed to
 /// each call. After an `Err` of a changing call the files are opened again before more is written.
-#[derive(Debug, Drop)]
+#[derive(Drop)]
 pub struct SinglePipe {
     pub(crate) alloc: Global,
     pub(crate) queue: LogQueue,

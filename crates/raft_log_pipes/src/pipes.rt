@@ -21,7 +21,7 @@ use raft_log_records::{FileBlockHandle, FileSeq, LogQueue};
 /// The log files of both queues (raft-engine's `DualPipes`), each pipe of its queue. The file system
 /// is passed to each call, and lies under both: a call on one queue leaves the files of the other as
 /// they are.
-#[derive(Debug, Drop)]
+#[derive(Drop)]
 pub struct DualPipes {
     pub(crate) append: SinglePipe,
     pub(crate) rewrite: SinglePipe,

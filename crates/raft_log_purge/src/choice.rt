@@ -14,7 +14,7 @@ const MANY_ENTRIES: u64 = 32;
 const MOST_REPORTS: u32 = 9;
 
 /// What cleaning knows of a group.
-#[derive(Clone, Copy, Debug, PartialEq, Eq)]
+#[derive(Clone, Copy, PartialEq, Eq)]
 pub struct GroupFacts {
     /// The least append file that is kept for it.
     pub least_file: Option<FileSeq>,
@@ -27,7 +27,7 @@ pub struct GroupFacts {
 }
 
 /// What is done with a group.
-#[derive(Clone, Copy, Debug, PartialEq, Eq)]
+#[derive(Clone, Copy, PartialEq, Eq)]
 pub struct Choice {
     /// Whoever writes the group is told to compact it.
     pub is_told: bool,

@@ -9,7 +9,7 @@ use raft_log_pipes::DualPipes;
 use raft_log_records::{FileSeq, LogQueue};
 
 /// The files of a queue.
-#[derive(Clone, Copy, Debug, PartialEq, Eq)]
+#[derive(Clone, Copy, PartialEq, Eq)]
 pub struct QueueFiles {
     /// The number of the first one.
     pub first: FileSeq,
@@ -20,7 +20,7 @@ pub struct QueueFiles {
 }
 
 /// What was written to the rewrite queue.
-#[derive(Clone, Copy, Debug, PartialEq, Eq)]
+#[derive(Clone, Copy, PartialEq, Eq)]
 pub struct Rewritten {
     /// How many entries and keys were written to it, since it was last written anew.
     pub written: u64,

@@ -83,7 +83,7 @@ pub fn tell_new_file<L: EventListener>(listeners: &mut [L], id: FileId)
 /// Keeps the append files whose batches aren't all in the memtables yet (raft-engine's `PurgeHook`,
 /// which counts them by file): from the least one on, while any batch waits. An engine with one
 /// writer has none that waits as it cleans; where several take turns, each can hold its files so.
-#[derive(Clone, Copy, Debug, PartialEq, Eq, Drop)]
+#[derive(Clone, Copy, PartialEq, Eq, Drop)]
 pub struct PurgeHook {
     /// The least file with a batch that waits.
     least: Option<FileSeq>,

@@ -58,7 +58,7 @@ fn may_come(last: Option<Option<u64>>, mark: Option<(u64, AtomicGroupStatus)>) -
 
 /// Records of a queue, one after the other: whether those of each atomic group stand together (own).
 /// Of the first one records before these may be gone.
-#[derive(Clone, Copy, Debug, PartialEq, Eq)]
+#[derive(Clone, Copy, PartialEq, Eq)]
 pub struct Together {
     /// What the last record leaves open, if there is a record.
     last: Option<Option<u64>>,

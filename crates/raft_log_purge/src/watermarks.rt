@@ -13,7 +13,7 @@ const COMPACT_PERCENT: u64 = 20;
 const REWRITE_PERCENT: u64 = 70;
 
 /// The files up to which the append queue is cleaned (raft-engine's watermarks).
-#[derive(Clone, Copy, Debug, PartialEq, Eq)]
+#[derive(Clone, Copy, PartialEq, Eq)]
 pub struct Watermarks {
     /// A group with something in a file before this one is old.
     pub compact: FileSeq,

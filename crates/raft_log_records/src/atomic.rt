@@ -11,7 +11,7 @@ use crate::item::AtomicGroupStatus;
 
 /// Marks the batches of one atomic group (raft-engine's `AtomicGroupBuilder`): the first by
 /// `begin`, the last by `end`, others by `add`. A mark belongs to no Raft group and names group 0.
-#[derive(Clone, Copy, Debug, PartialEq, Eq)]
+#[derive(Clone, Copy, PartialEq, Eq)]
 pub struct AtomicGroupBuilder {
     pub id: u64,
 }

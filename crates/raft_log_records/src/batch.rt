@@ -33,7 +33,7 @@ use std::marker::Model;
 use std::mem;
 
 /// Changes of groups that are written and count together (raft-engine's `LogBatch`).
-#[derive(Debug, Drop)]
+#[derive(Drop)]
 pub struct LogBatch {
     items: Vec<LogItem>,
     /// The bytes of all entries, one after the other.
@@ -47,7 +47,7 @@ pub struct LogBatch {
 
 /// Whether the record is written (raft-engine's `BufState`): with which checksum of its items, and
 /// signed for which file.
-#[derive(Clone, Copy, Debug)]
+#[derive(Clone, Copy)]
 enum BufState {
     Open,
     Encoded {

@@ -11,7 +11,7 @@ use std::marker::Model;
 
 /// The CRC-32 of the bytes taken so far, so that bytes that lie apart are summed with no copy of
 /// them (as crc32fast's `Hasher`).
-#[derive(Debug, Drop)]
+#[derive(Drop)]
 pub struct Checksum {
     /// Not complemented yet.
     register: u32,

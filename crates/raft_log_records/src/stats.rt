@@ -8,7 +8,7 @@ use crate::file_id::LogQueue;
 
 /// Counts of entries and keys in the two queues (raft-engine's `GlobalStats`). A count stays at
 /// 2^64 - 1.
-#[derive(Clone, Copy, Debug, PartialEq, Eq)]
+#[derive(Clone, Copy, PartialEq, Eq)]
 pub struct GlobalStats {
     /// Those of the append queue that are needed.
     appended: u64,

@@ -26,7 +26,7 @@ impl Default for Version {
 }
 
 /// The file that a record stands in or is meant for (raft-engine's `LogFileContext`).
-#[derive(Clone, Copy, Debug, PartialEq, Eq)]
+#[derive(Clone, Copy, PartialEq, Eq)]
 pub struct LogFileContext {
     pub id: FileId,
     pub version: Version,

@@ -17,7 +17,7 @@ use std::alloc::Global;
 
 /// Opens the log files of both queues (raft-engine's `DualPipesBuilder`): `scan` finds them, and
 /// `recover_alone` reads and repairs them. The file system is passed to each call.
-#[derive(Debug, Drop)]
+#[derive(Drop)]
 pub struct DualPipesBuilder {
     pub(crate) alloc: Global,
     pub(crate) config: Config,

@@ -17,7 +17,7 @@ use raft_log_records::{FileBlockHandle, FileId, RecordFault, Version};
 use std::alloc::Global;
 
 /// What was read of a whole file (own).
-#[derive(Clone, Copy, Debug, PartialEq, Eq)]
+#[derive(Clone, Copy, PartialEq, Eq)]
 pub struct ReadFile {
     /// What the header says; version 1 where it is broken.
     pub format: LogFileFormat,

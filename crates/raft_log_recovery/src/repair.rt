@@ -43,7 +43,7 @@ fn settle<F: FileSystem>(files: &mut F, fd: Fd, cut: Option<u64>) -> Result<(), 
 }
 
 /// How far the whole records of a file reach, and the fault behind them (own).
-#[derive(Clone, Copy, Debug, PartialEq, Eq)]
+#[derive(Clone, Copy, PartialEq, Eq)]
 pub struct FileEnd {
     /// The file's bytes before that place: 0 where its header is broken.
     pub to: u64,

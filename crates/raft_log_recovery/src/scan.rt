@@ -9,7 +9,7 @@ use raft_log_records::{FileId, FileSeq, LogQueue};
 use std::alloc::{AllocError, Global};
 
 /// Which files are looked for.
-#[derive(Clone, Copy, Debug, PartialEq, Eq)]
+#[derive(Clone, Copy, PartialEq, Eq)]
 pub enum FileKind {
     /// The log files of a queue.
     Log(LogQueue),
@@ -18,7 +18,7 @@ pub enum FileKind {
 }
 
 /// A file that was found in a directory (raft-engine's `FileName`).
-#[derive(Clone, Copy, Debug, PartialEq, Eq)]
+#[derive(Clone, Copy, PartialEq, Eq)]
 pub struct FileName {
     pub seq: FileSeq,
     /// In which of the directories it lies.

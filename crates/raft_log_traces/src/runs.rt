@@ -9,7 +9,7 @@ use raft_log_records::FileSeq;
 use std::alloc::AllocError;
 
 /// Entries from an index on, up to the next run's, which stand in one append file.
-#[derive(Clone, Copy, Debug, PartialEq, Eq)]
+#[derive(Clone, Copy, PartialEq, Eq)]
 pub(crate) struct Run {
     /// One past the greatest index is no `u64`, so ends of lists are wider.
     pub first: u128,

@@ -11,7 +11,7 @@ use raft_log_recovery::{MergeMachine, NewMachine, ReplayMachine};
 use std::alloc::Global;
 
 /// A batch, and the block of its entries.
-#[derive(Debug, Drop)]
+#[derive(Drop)]
 pub struct ReplayedBatch {
     pub batch: LogItemBatch,
     pub handle: FileBlockHandle,
@@ -19,7 +19,7 @@ pub struct ReplayedBatch {
 
 /// Keeps the batches of log files in their order (own). So several workers can read them for a machine
 /// whose parts can't be merged, which then replays all.
-#[derive(Debug, Drop)]
+#[derive(Drop)]
 pub struct ReplayedBatches {
     pub(crate) batches: Vec<ReplayedBatch>,
 }

@@ -10,7 +10,7 @@ use std::marker::Model;
 /// A running total modulo 2^64 (own). A command of 8 bytes is a number, the greatest byte first, that is
 /// added; the answer is the new total in 8 bytes. Any other command changes nothing and is
 /// answered by no bytes. The snapshot is the total in 8 bytes; other bytes restore 0.
-#[derive(Debug, Drop)]
+#[derive(Drop)]
 pub struct AddingMachine {
     alloc: Global,
     total: u64,

@@ -3,7 +3,7 @@ use Rattle.std.specs.Prelude.{◌≡◌, ℕ, ◌<◌, ◌≤◌, ◌^◌, ◌&&
 use Rattle.std.proofs.Common.{sym, ap, ◌∙◌, arith}
 use Rattle.raft_quorums.specs.QuorumLaws.{and_left}
 use Rattle.raft_values.specs.LogId.{next_place}
-use Rattle.raft_state.specs.LogIdList.{last_id}
+use Rattle.raft_log_ids.specs.LogIdList.{last_id}
 use Rattle.raft_group_step.specs.Values.{ChangeMembers, LoggedMembership, after_change, configs_eq, is_valid, is_within_limits}
 use Rattle.raft_group_step.specs.StoredGroup.{membership_in_force, end_place}
 use Rattle.raft_group_step.specs.GroupState.{GroupState}

@@ -9,3 +9,4 @@ pub mod MessageLemmas
 pub mod LoadedLemmas
 pub mod ReadyLemmas
 pub mod HearingLemmas
+pub mod TellingLemmas

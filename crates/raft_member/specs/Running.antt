@@ -39,6 +39,11 @@ left_by (ended.Refused why) e m = record m { engine = Some e }
 left_by ended.Stopped e m = m
 left_by ended.Skipped e m = m
 
+-- the member that an event leaves which was told so: at a fault the engine is gone
+abbrev pub left_at : {X F : Type 0} → Result (Ended X) F → Engine → Member → Member
+left_at (Ok end) e m = left_by end e m
+left_at (Err met) e m = m
+
 -- the step stopped at one of its storing commands: those before it are stored, it may be, and the member is down
 pub record HasHalted (shown : List StoredGroup → Type 0) (old : StoredGroup) (r : StepResult) (m : Member) : Type 0 where
   pub number : ℕ

@@ -263,15 +263,8 @@ impl Member {
             moment: self.moment,
             sendings: mem::replace(&mut self.sendings, SendingTimes::none()),
         };
-        match beside.call(alloc, engine, call, built, now, stop, storage, group) {
-            Ok(ended) => {
-                self.join(&mut beside, &ended);
-                Ok(ended)
-            }
-            Err(met) => {
-                *self = beside;
-                Err(met)
-            }
-        }
+        let told = beside.call(alloc, engine, call, built, now, stop, storage, group);
+        self.join(beside, &told);
+        told
     }
 }

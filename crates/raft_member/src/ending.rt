@@ -10,55 +10,59 @@ ghost use Rattle.std.specs.Result.{result_err};
 ghost use Rattle.raft_group_storage.specs.Keeping.{KeepsOthers};
 ghost use Rattle.raft_member.specs.Hearing.{IsOver};
 ghost use Rattle.raft_member.specs.Member.{Engine as Running, IsDown, IsIdle};
-ghost use Rattle.raft_member.specs.Running.{HasHalted, IsRun, RunsTo, left_by};
+ghost use Rattle.raft_member.specs.Running.{HasHalted, IsRun, RunsTo, left_at};
 
-use crate::member::{ByteGroup, Ended, Member};
+use crate::member::{ByteGroup, Ended, Member, let_go};
 use raft_engine::Engine;
-use raft_executor::{Sender, messages, store_first};
+use raft_executor::{Sender, SendingTimes, messages, store_first};
 use raft_group_storage::GroupStorage;
 use std::alloc::Global;
 use std::mem;
 
 // The engine has nothing left to do.
-fn come_to_rest(engine: &mut Engine<ByteGroup>)
+pub(crate) fn come_to_rest(engine: &mut Engine<ByteGroup>)
     ensures leader { engine.new.leader ≡ engine.old.leader }
     ensures idle { (own : ℕ) (s : GroupState) → IsStateOf own engine.old s → IsIdle own engine.new s }
 {
     engine.end_event();
 }
 
-// The engine with nothing left to do.
-pub(crate) fn at_rest(engine: Engine<ByteGroup>) -> Engine<ByteGroup>
-    ensures { (own : ℕ) (s : GroupState) → IsStateOf own engine s → IsIdle own result s }
-{
-    let mut engine = engine;
-    come_to_rest(&mut engine);
-    engine
-}
-
 impl Member {
-    // The engine that was taken out for an event goes back, unless the event stopped.
-    pub(crate) fn put_back<X>(&mut self, engine: Engine<ByteGroup>, ended: &Ended<X>)
-        ensures { self.new ≡ left_by ended.now engine self.old }
+    // The engine that was made for an event goes into its place, unless the event stopped or met a
+    // fault.
+    pub(crate) fn put_back<X, F>(&mut self, engine: Engine<ByteGroup>, told: &Result<Ended<X>, F>)
+        ensures { self.new ≡ left_at told.now engine self.old }
     {
-        match ended {
-            Ended::Done(_) | Ended::Refused(_) => self.engine = Some(engine),
-            Ended::Stopped | Ended::Skipped => {}
+        let mut other = Member {
+            id: self.id,
+            engine: Some(engine),
+            moment: 0,
+            sendings: SendingTimes::none(),
+        };
+        match told {
+            Ok(Ended::Done(_) | Ended::Refused(_)) => {
+                mem::swap(&mut self.engine, &mut other.engine);
+            }
+            Ok(Ended::Stopped | Ended::Skipped) | Err(_) => {}
         }
+        let_go(other);
     }
 
     // What an event left of the member beside its engine, which stayed in its place, goes back, unless
-    // the event stopped: then the engine goes, too. So an engine isn't moved for an event.
-    pub(crate) fn join<X>(&mut self, beside: &mut Member, ended: &Ended<X>)
-        ensures { (e : Running) → self.old.engine ≡ Some e → beside.old.id ≡ self.old.id → self.new ≡ left_by ended.now e beside.old }
+    // the event stopped or met a fault: then the engine goes, too. So an engine isn't moved for an
+    // event.
+    pub(crate) fn join<X, F>(&mut self, beside: Member, told: &Result<Ended<X>, F>)
+        ensures { (e : Running) → self.old.engine ≡ Some e → beside.id ≡ self.old.id → self.new ≡ left_at told.now e beside }
     {
-        match ended {
-            Ended::Done(_) | Ended::Refused(_) => {
+        let mut beside = beside;
+        match told {
+            Ok(Ended::Done(_) | Ended::Refused(_)) => {
                 self.moment = beside.moment;
                 mem::swap(&mut self.sendings, &mut beside.sendings);
             }
-            Ended::Stopped | Ended::Skipped => mem::swap(self, beside),
+            Ok(Ended::Stopped | Ended::Skipped) | Err(_) => mem::swap(self, &mut beside),
         }
+        let_go(beside);
     }
 
     // The step is done: what the queue asks for is stored in its order, and sent. The snapshot is

@@ -7,7 +7,7 @@ ghost use Rattle.std.specs.Result.{result_err};
 ghost use Rattle.raft_group_storage.specs.Keeping.{KeepsOthers};
 ghost use Rattle.raft_member.specs.Member.{IsIdle, IsUp};
 
-use crate::ending::at_rest;
+use crate::ending::come_to_rest;
 use raft_commands::RaftTypeConfig;
 use raft_conditions::Refusal;
 use raft_engine::Engine;
@@ -16,6 +16,7 @@ use raft_group_storage::GroupStorage;
 use raft_messages::Message;
 use raft_state::{BasicNode, Bytes};
 use std::alloc::{AllocError, Global};
+use std::mem;
 
 /// A group whose nodes are numbers, and whose commands and answers are bytes (own).
 #[derive(Clone, Copy, Debug)]
@@ -32,7 +33,7 @@ impl RaftTypeConfig for ByteGroup {
 }
 
 /// How an event ended that came to a member (own).
-#[derive(Debug, Drop)]
+#[derive(Drop)]
 pub enum Ended<X> {
     /// It ran to its end, and sent these messages.
     Done(Vec<Message<X>>),
@@ -56,7 +57,7 @@ pub enum Broken<F> {
 
 /// A member of a group at a node (own): it is up with an engine, or down. What the node has stored
 /// of the group stands elsewhere (`GroupStorage`), and is handed in with each event.
-#[derive(Debug, Drop)]
+#[derive(Drop)]
 pub struct Member {
     /// The node's id.
     pub id: u64,
@@ -67,6 +68,10 @@ pub struct Member {
     /// When the last request to each peer left.
     pub sendings: SendingTimes,
 }
+
+// The member is let go. Each function that lets an engine go is proved for each of its parts: so
+// this one does it for all.
+pub(crate) fn let_go(_member: Member) {}
 
 impl Member {
     /// A member that has the group, which is made by this, and nothing in it (own). Where it fails,
@@ -85,14 +90,21 @@ impl Member {
         ensures others { KeepsOthers (S.shows storage.old) (S.shows storage.new) group }
         ensures met { S.meets storage.old storage.new (result_err result) }
     {
-        let engine = Engine::for_new_group(alloc, id)?;
-        storage.make_group(group)?;
-        Ok(Member {
+        let mut engine = Engine::for_new_group(alloc, id)?;
+        come_to_rest(&mut engine);
+        let made = Member {
             id,
-            engine: Some(at_rest(engine)),
+            engine: Some(engine),
             moment: 0,
             sendings: SendingTimes::none(),
-        })
+        };
+        match storage.make_group(group) {
+            Ok(()) => Ok(made),
+            Err(met) => {
+                let_go(made);
+                Err(met)
+            }
+        }
     }
 
     /// A member that is down (own). Takes no memory.
@@ -138,7 +150,9 @@ impl Member {
         ensures id { self.new.id ≡ self.old.id }
         ensures down { self.new.engine ≡ None }
     {
-        self.engine = None;
-        self.sendings = SendingTimes::none();
+        let mut gone = Member::down(self.id);
+        mem::swap(&mut self.engine, &mut gone.engine);
+        mem::swap(&mut self.sendings, &mut gone.sendings);
+        let_go(gone);
     }
 }

@@ -271,15 +271,8 @@ impl Member {
             moment: self.moment,
             sendings: mem::replace(&mut self.sendings, SendingTimes::none()),
         };
-        match beside.message(alloc, engine, message, now, stop, storage, group) {
-            Ok(ended) => {
-                self.join(&mut beside, &ended);
-                Ok(ended)
-            }
-            Err(met) => {
-                *self = beside;
-                Err(met)
-            }
-        }
+        let told = beside.message(alloc, engine, message, now, stop, storage, group);
+        self.join(beside, &told);
+        told
     }
 }

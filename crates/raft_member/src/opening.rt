@@ -161,9 +161,9 @@ impl Member {
         let Some(mut engine) = opened_engine(alloc, self.id, loaded)? else {
             return Ok(Ended::Skipped);
         };
-        let ended = self.end_without_snapshot(alloc, &mut engine, 0, stop, storage, group)?;
-        self.put_back(engine, &ended);
-        Ok(ended)
+        let told = self.end_without_snapshot(alloc, &mut engine, 0, stop, storage, group);
+        self.put_back(engine, &told);
+        told
     }
 
     /// The member is opened with what is stored (own): what the snapshot has is committed and

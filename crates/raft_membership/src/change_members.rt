@@ -7,7 +7,7 @@ use raft_quorums::node_map::NodeMap;
 use raft_values::node::{Node, NodeId};
 
 /// A change of a membership (openraft).
-#[derive(Debug, Drop, PartialEq, Eq)]
+#[derive(Drop, PartialEq, Eq)]
 pub enum ChangeMembers<NID: NodeId, N: Node> {
     /// These nodes become voters too. They have to be nodes already.
     AddVoterIds(IdSet<NID>),

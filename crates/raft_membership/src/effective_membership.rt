@@ -18,7 +18,7 @@ use std::fmt::{self, Display};
 
 /// The membership in force: the last one of the log, committed or not, and the log id of its
 /// entry (openraft; here the voters are read off the membership).
-#[derive(Debug, Drop, PartialEq, Eq)]
+#[derive(Drop, PartialEq, Eq)]
 pub struct EffectiveMembership<NID: NodeId, N: Node> {
     log_id: Option<LogId<NID>>,
     membership: Membership<NID, N>,

@@ -17,7 +17,7 @@ use std::mem;
 
 /// The last committed membership, and the one in force (openraft; memberships are owned, so what
 /// makes one the other copies it).
-#[derive(Debug, Drop)]
+#[derive(Drop)]
 pub struct MembershipState<NID: NodeId, N: Node> {
     committed: EffectiveMembership<NID, N>,
     effective: EffectiveMembership<NID, N>,

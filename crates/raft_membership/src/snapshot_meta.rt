@@ -8,7 +8,7 @@ use std::alloc::{AllocError, Global};
 
 /// What a snapshot holds (openraft; here a group has one snapshot at a node, so its last log id
 /// tells it from the one before, and there is no id beside that).
-#[derive(Debug, Drop, PartialEq, Eq)]
+#[derive(Drop, PartialEq, Eq)]
 pub struct SnapshotMeta<NID: NodeId, N: Node> {
     /// The last log id that it has taken in; none of an empty machine.
     pub last_log_id: Option<LogId<NID>>,

@@ -10,7 +10,7 @@ use std::alloc::{AllocError, Global};
 use std::fmt::{self, Display};
 
 /// A membership, and the log id of the entry that has it (openraft).
-#[derive(Debug, Drop, PartialEq, Eq)]
+#[derive(Drop, PartialEq, Eq)]
 pub struct StoredMembership<NID: NodeId, N: Node> {
     log_id: Option<LogId<NID>>,
     membership: Membership<NID, N>,

@@ -21,7 +21,7 @@ pub struct SnapshotHead<'a> {
 }
 
 /// A snapshot as it is sent and stored: what it covers, and the machine's state as bytes (own).
-#[derive(Debug, Drop)]
+#[derive(Drop)]
 pub struct SnapshotBytes {
     /// The log id of the last entry, and the last membership among the entries.
     pub meta: SnapshotMeta<u64, BasicNode>,

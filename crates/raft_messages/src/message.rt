@@ -19,7 +19,7 @@ pub enum RequestId {
 pub type ReplyResult = AppendEntriesResponse<u64>;
 
 /// Entries to be appended after the previous one, and how far the sender has committed (own).
-#[derive(Debug, Drop)]
+#[derive(Drop)]
 pub struct AppendFields {
     /// The leader's vote.
     pub vote: Vote<u64>,
@@ -34,7 +34,7 @@ pub struct AppendFields {
 }
 
 /// A reply repeats what the request was, and says what came of it (own).
-#[derive(Clone, Copy, Debug, PartialEq, Eq)]
+#[derive(Clone, Copy, PartialEq, Eq)]
 pub struct ReplyFields {
     /// The vote of the request.
     pub vote: Vote<u64>,
@@ -49,7 +49,7 @@ pub struct ReplyFields {
 }
 
 /// What a message says (own): one of six kinds. `S` is what a snapshot carries.
-#[derive(Debug, Drop)]
+#[derive(Drop)]
 pub enum MessageBody<S> {
     /// A candidate asks for a vote.
     VoteRequest(VoteRequest<u64>),
@@ -73,7 +73,7 @@ pub enum MessageBody<S> {
 }
 
 /// What a node of a group sends to another one (own).
-#[derive(Debug, Drop)]
+#[derive(Drop)]
 pub struct Message<S> {
     /// The node that sends it.
     pub sender: u64,

@@ -7,7 +7,7 @@ use raft_node_faults::Fault;
 use std::alloc::Global;
 
 /// What an event of a group at a node did (own): all that it stored is on the disk.
-#[derive(Debug, Drop)]
+#[derive(Drop)]
 pub struct Outcome {
     /// The group.
     pub group: u64,
@@ -20,7 +20,7 @@ pub struct Outcome {
 }
 
 /// What a piece of a peer's stream did (own).
-#[derive(Debug, Drop)]
+#[derive(Drop)]
 pub struct Fed<F> {
     /// What each frame that got whole did, in order.
     pub outcomes: Vec<Outcome>,

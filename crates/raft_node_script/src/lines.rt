@@ -7,7 +7,7 @@ use std::alloc::{AllocError, Global};
 use std::str;
 
 /// What a line of a node's script says (own).
-#[derive(Debug, Drop)]
+#[derive(Drop)]
 pub enum NodeLine {
     /// An empty line, or a comment.
     Skipped,
@@ -28,7 +28,7 @@ pub enum NodeLine {
 }
 
 /// A line, and how many tokens were taken behind it.
-#[derive(Debug, Drop)]
+#[derive(Drop)]
 pub struct ReadNodeLine {
     pub line: NodeLine,
     pub tokens: u64,

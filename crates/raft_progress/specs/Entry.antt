@@ -3,8 +3,8 @@ use Rattle.std.specs.Prelude.{ℕ, zero, suc, ◌+◌, ◌-◌, ◌*◌, ◌/◌
 use Rattle.std.specs.declared.cmp.Ordering.{Ordering}
 use Rattle.raft_values.specs.declared.log_id.LogId.{LogId}
 use Rattle.raft_values.specs.LogId.{next_place}
-use Rattle.raft_state.specs.LogIdList.{last_id}
-use Rattle.raft_state.specs.State.{id_before}
+use Rattle.raft_log_ids.specs.LogIdList.{last_id}
+use Rattle.raft_log_ids.specs.LogIdList.{id_before}
 use Rattle.raft_progress.specs.declared.inflight.Inflight.{Inflight}
 use Rattle.raft_progress.specs.declared.inflight.Inflight.TheVariants.{None as Nothing, Logs, Snapshot}
 use Rattle.raft_progress.specs.Inflight.{is_below}

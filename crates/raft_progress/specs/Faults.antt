@@ -6,7 +6,7 @@ use Rattle.raft_values.specs.declared.log_id.LogId.{LogId}
 use Rattle.raft_values.specs.declared.validate.Invalid.{Invalid}
 use Rattle.raft_values.specs.LogId.{is_past, next_place}
 use Rattle.raft_values.specs.Range.{range_fault}
-use Rattle.raft_state.specs.State.{or_fault}
+use Rattle.raft_log_ids.specs.Faults.{or_fault}
 use Rattle.raft_progress.specs.declared.inflight.Inflight.{Inflight}
 use Rattle.raft_progress.specs.declared.inflight.Inflight.TheVariants.{None as Nothing, Logs, Snapshot}
 use Rattle.raft_progress.specs.declared.invalid_progress.InvalidProgress.{InvalidProgress}

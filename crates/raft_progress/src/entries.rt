@@ -6,7 +6,7 @@ ghost use Rattle.raft_quorums.specs.Nodes.{has_node};
 ghost use Rattle.raft_progress.specs.Parts.{ids_of};
 ghost use Rattle.raft_progress.specs.Values.{value_at, with_value};
 
-use raft_state::NodeId;
+use raft_values::NodeId;
 use std::alloc::{AllocError, Global};
 
 fn first_place<ID: NodeId, V>(entries: &[(ID, V)], id: &ID) -> Option<usize>

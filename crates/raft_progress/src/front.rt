@@ -7,7 +7,8 @@ ghost use Rattle.raft_progress.specs.Granted.{IsFalling, IsGranted, IsFallingBut
 ghost use Rattle.raft_progress.specs.Search.{EndsQuorum, HasNoQuorum};
 
 use crate::borrow::Borrow;
-use raft_state::{HasId, NodeId, QuorumSet};
+use raft_quorums::{HasId, QuorumSet};
+use raft_values::NodeId;
 use std::alloc::AllocError;
 
 // The ids of these entries, as a set.

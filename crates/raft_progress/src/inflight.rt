@@ -5,11 +5,11 @@ ghost use Rattle.std.specs.Option.{option_cmp};
 ghost use Rattle.raft_progress.specs.Faults.{inflight_fault};
 ghost use Rattle.raft_progress.specs.Inflight.{has_request_id, is_snapshot, is_logs, request_id, rest_behind, under_id};
 
-use raft_state::{Invalid, LogId, LogIdRange, NodeId, Validate};
+use raft_values::{Invalid, LogId, LogIdRange, NodeId, Validate};
 use std::fmt::{self, Display};
 
 /// What a leader has sent to a peer, until the peer answers (openraft).
-#[derive(Clone, Copy, Debug, PartialEq, Eq)]
+#[derive(Clone, Copy, PartialEq, Eq)]
 pub enum Inflight<NID> {
     /// Nothing.
     None,

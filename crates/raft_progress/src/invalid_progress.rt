@@ -1,5 +1,5 @@
 //! What is wrong with what a leader knows of a peer.
-use raft_state::Invalid;
+use raft_values::Invalid;
 use thiserror::Error;
 
 /// What is wrong with a progress entry (own; openraft answers a boxed text).

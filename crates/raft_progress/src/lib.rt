@@ -18,6 +18,6 @@ pub use invalid_progress::InvalidProgress;
 pub use iter::Iter;
 pub use progress::Progress;
 pub use progress_entry::ProgressEntry;
-pub use raft_state::Joint;
+pub use raft_quorums::Joint;
 pub use replaying::{ReplayError, ReplayItem, replay};
 pub use vec_progress::VecProgress;

@@ -13,7 +13,8 @@ ghost use Rattle.raft_progress.specs.Values.{value_at};
 use crate::borrow::Borrow;
 use crate::iter::Iter;
 use crate::vec_progress::VecProgress;
-use raft_state::{NodeId, QuorumSet};
+use raft_quorums::QuorumSet;
+use raft_values::NodeId;
 use std::alloc::{AllocError, Global};
 
 /// What tracks a value of each peer, and which of them a quorum has reached (openraft).

@@ -1,7 +1,7 @@
 //! What a leader knows of one peer.
 ghost use Rattle.std.specs.Prelude.{◌≡◌, ◌+◌, ◌-◌, ◌*◌, ◌/◌, ◌^◌, ◌<◌, true, false, max, min, nat_lt, None, is_some, Ok, Err, OnErr};
 ghost use Rattle.raft_values.specs.LogId.{is_past, next_place};
-ghost use Rattle.raft_state.specs.LogIdList.{last_id};
+ghost use Rattle.raft_log_ids.specs.LogIdList.{last_id};
 ghost use Rattle.raft_progress.specs.Entry.{next_request, request_start, search_behind};
 ghost use Rattle.raft_progress.specs.Faults.{progress_fault, request_fault};
 ghost use Rattle.raft_progress.specs.Inflight.{has_request_id, is_past_start, request_id, rest_behind, under_id};
@@ -9,11 +9,12 @@ ghost use Rattle.raft_progress.specs.Inflight.{has_request_id, is_past_start, re
 use crate::borrow::Borrow;
 use crate::inflight::Inflight;
 use crate::invalid_progress::InvalidProgress;
-use raft_state::{LogId, LogIdOptionExt, LogStateReader, NodeId, Validate};
+use raft_log_ids::LogStateReader;
+use raft_values::{LogId, LogIdOptionExt, NodeId, Validate};
 use std::fmt::{self, Display};
 
 /// What a leader knows of a peer (openraft). What is compared of it is `matching`.
-#[derive(Clone, Copy, Debug, PartialEq, Eq)]
+#[derive(Clone, Copy, PartialEq, Eq)]
 pub struct ProgressEntry<NID> {
     /// The last log id that the peer's log is known to have.
     pub matching: Option<LogId<NID>>,

@@ -5,12 +5,13 @@ ghost use Rattle.raft_progress.specs.Replay.{DoesItem, IsRefused, Replays, Stops
 
 use crate::borrow::Borrow;
 use crate::vec_progress::VecProgress;
-use raft_state::{NodeId, QuorumSet};
+use raft_quorums::QuorumSet;
+use raft_values::NodeId;
 use std::alloc::Global;
 use thiserror::Error;
 
 /// A call of a progress (own).
-#[derive(Debug, Drop)]
+#[derive(Drop)]
 pub enum ReplayItem<ID, V, QS> {
     /// The value of the id is set.
     Update {

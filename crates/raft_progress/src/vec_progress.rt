@@ -16,7 +16,8 @@ use crate::borrow::Borrow;
 use crate::entries::{beside, distinct_place, place, set_value, value_in};
 use crate::front::{granted_by, is_below, push_falling, raise};
 use crate::iter::Iter;
-use raft_state::{NodeId, QuorumSet};
+use raft_quorums::QuorumSet;
+use raft_values::NodeId;
 use std::alloc::{AllocError, Global};
 use std::fmt::{self, Display};
 use std::marker::Model;
@@ -25,7 +26,7 @@ use std::marker::Model;
 /// built with, what is granted, and the values of voters and learners beside their ids. The
 /// voters stand in falling order of their values, as long as none is changed by `get_mut`; those
 /// of `new`, which are all equal, and of `upgrade_by_id` stand by rising id until one rises.
-#[derive(Debug, Drop)]
+#[derive(Drop)]
 pub struct VecProgress<ID: PartialEq, V, P, QS> {
     quorum_set: QS,
     built_with: P,

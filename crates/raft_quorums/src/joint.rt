@@ -14,7 +14,7 @@ use std::alloc::{AllocError, Global};
 use std::marker::PhantomData;
 
 /// Quorum sets of which each has to be met (openraft).
-#[derive(Debug, Drop)]
+#[derive(Drop)]
 pub struct Joint<ID, QS, D> {
     data: D,
     of: PhantomData<(ID, QS)>,

@@ -28,6 +28,14 @@ impl Answer {
         }
     }
 
+    /// A value as `{}` prints it.
+    pub fn told(alloc: Global, value: &impl fmt::Display) -> Answer {
+        match format!(in alloc; "{value}") {
+            Ok(text) => Answer::Text(text),
+            Err(_) => Answer::NoMemory,
+        }
+    }
+
     /// The bytes that a call told, or its error.
     pub fn bytes<E: fmt::Debug + Drop>(alloc: Global, told: Result<Vec<u8>, E>) -> Answer {
         match told {

@@ -3,7 +3,7 @@ ghost use Rattle.std.specs.Prelude.{◌≡◌};
 ghost use Rattle.raft_script_answers.specs.Refusal.{label_of};
 
 /// Why an event is refused (own): 1 to 16 by its node, C1 to C9 by the cluster.
-#[derive(Clone, Copy, Debug, PartialEq, Eq)]
+#[derive(Clone, Copy, PartialEq, Eq)]
 pub enum Refusal {
     /// The leader is named where it is known.
     NotLeader { leader: Option<u64> },

@@ -10,7 +10,7 @@ pub struct SentNumber {
 }
 
 /// What whoever proposed is told (own).
-#[derive(Clone, Copy, Debug, PartialEq, Eq)]
+#[derive(Clone, Copy, PartialEq, Eq)]
 pub struct ToldTotal {
     /// The token of the line that proposed.
     pub token: u64,
@@ -21,7 +21,7 @@ pub struct ToldTotal {
 }
 
 /// A group's total at a node (own).
-#[derive(Clone, Copy, Debug, PartialEq, Eq)]
+#[derive(Clone, Copy, PartialEq, Eq)]
 pub struct AppliedTotal {
     pub total: u64,
     /// The last place that is in it, if any is.

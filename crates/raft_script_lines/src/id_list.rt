@@ -6,7 +6,7 @@ use std::alloc::{AllocError, Global};
 use std::marker::Model;
 
 /// Ids in the order in which a line names them (own). Contracts see their list.
-#[derive(Debug, Drop)]
+#[derive(Drop)]
 pub struct IdList {
     items: Vec<u64>,
 }

@@ -13,7 +13,7 @@ pub enum CrashChoice {
 }
 
 /// An event of a cluster, as a line names it (own). Nodes, groups and peers are ids.
-#[derive(Debug, Drop)]
+#[derive(Drop)]
 pub enum ScriptEvent {
     /// `add N G`: the node gets the empty group.
     Add {
@@ -97,7 +97,7 @@ pub enum ScriptEvent {
 }
 
 /// What a line says (own).
-#[derive(Debug, Drop)]
+#[derive(Drop)]
 pub enum ScriptLine {
     /// An empty line, or a comment.
     Skipped,

@@ -24,7 +24,7 @@ pub enum WordOfThree {
 }
 
 /// The word that an event begins with (own).
-#[derive(Clone, Copy, Debug, PartialEq, Eq)]
+#[derive(Clone, Copy, PartialEq, Eq)]
 pub enum Verb {
     Two(WordOfTwo),
     Three(WordOfThree),

@@ -1,4 +1,4 @@
-//! Readers and writers that give or take little at a time, are interrupted, and fail.
+//! A reader and a writer that give and take little at a time, are interrupted, and fail.
 use std::alloc::Global;
 use std::io::{Error, ErrorKind, Read, Result, Write};
 
@@ -6,33 +6,12 @@ use std::io::{Error, ErrorKind, Read, Result, Write};
 /// It counts the bytes that it gave, and knows the most that it was asked for at once.
 #[derive(Drop)]
 pub struct Piecewise<'a> {
-    bytes: &'a [u8],
-    piece: usize,
-    left: usize,
-    interrupted: bool,
-    given: usize,
-    most: usize,
-}
-
-impl<'a> Piecewise<'a> {
-    pub fn new(bytes: &'a [u8], piece: usize, left: usize) -> Piecewise<'a> {
-        Piecewise {
-            bytes,
-            piece,
-            left,
-            interrupted: false,
-            given: 0,
-            most: 0,
-        }
-    }
-
-    pub fn given(&self) -> usize {
-        self.given
-    }
-
-    pub fn most(&self) -> usize {
-        self.most
-    }
+    pub bytes: &'a [u8],
+    pub piece: usize,
+    pub left: usize,
+    pub interrupted: bool,
+    pub given: usize,
+    pub most: usize,
 }
 
 impl Read for Piecewise<'_> {
@@ -58,27 +37,27 @@ impl Read for Piecewise<'_> {
     }
 }
 
-/// Takes little at a time, is interrupted before each, and fails where it has no more room.
+/// Takes pieces, is interrupted before each, and fails where it has no more room. It may note each
+/// flush as `~`.
 #[derive(Drop)]
 pub struct Stubborn {
-    bytes: Vec<u8>,
-    piece: usize,
-    room: usize,
-    interrupted: bool,
+    pub bytes: Vec<u8>,
+    pub piece: usize,
+    pub room: usize,
+    pub notes_flushes: bool,
+    pub interrupted: bool,
 }
 
 impl Stubborn {
-    pub fn new(alloc: Global, piece: usize, room: usize) -> Stubborn {
+    /// Took nothing.
+    pub fn new(alloc: Global, piece: usize, room: usize, notes_flushes: bool) -> Stubborn {
         Stubborn {
             bytes: Vec::new(alloc),
             piece,
             room,
+            notes_flushes,
             interrupted: false,
         }
-    }
-
-    pub fn written(&self) -> &[u8] {
-        self.bytes.as_slice()
     }
 }
 
@@ -98,36 +77,9 @@ impl Write for Stubborn {
     }
 
     fn flush(&mut self) -> Result<()> {
-        Ok(())
-    }
-}
-
-/// Takes all, and notes each flush as `~`.
-#[derive(Drop)]
-pub struct Flushed {
-    bytes: Vec<u8>,
-}
-
-impl Flushed {
-    pub fn new(alloc: Global) -> Flushed {
-        Flushed {
-            bytes: Vec::new(alloc),
+        if self.notes_flushes {
+            self.bytes.push(b'~')?;
         }
-    }
-
-    pub fn written(&self) -> &[u8] {
-        self.bytes.as_slice()
-    }
-}
-
-impl Write for Flushed {
-    fn write(&mut self, buf: &[u8]) -> Result<usize> {
-        self.bytes.extend_from_slice(buf)?;
-        Ok(buf.len())
-    }
-
-    fn flush(&mut self) -> Result<()> {
-        self.bytes.push(b'~')?;
         Ok(())
     }
 }

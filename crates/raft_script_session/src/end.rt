@@ -31,7 +31,7 @@ impl ScriptEnd {
 }
 
 /// Why a script stops before its end (own).
-#[derive(Clone, Copy, Debug, PartialEq, Eq)]
+#[derive(Clone, Copy, PartialEq, Eq)]
 pub enum Stop {
     /// The line with this number is no event.
     NoEvent(u64),

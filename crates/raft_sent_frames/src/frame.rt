@@ -4,7 +4,7 @@ use raft_list_facts::Acceptance;
 use raft_values::Bytes;
 
 /// A frame that leaves a node (own).
-#[derive(Debug, Drop)]
+#[derive(Drop)]
 pub struct NodeFrame {
     /// The node that it is for.
     pub peer: u64,
@@ -15,7 +15,7 @@ pub struct NodeFrame {
 }
 
 /// A frame that a node sent (own).
-#[derive(Debug, Drop)]
+#[derive(Drop)]
 pub struct SentFrame {
     /// The node that sent it.
     pub sender: u64,

@@ -12,7 +12,7 @@ use std::marker::Model;
 
 /// The frames that nodes sent, by group, each numbered from 0 in the order of sending (own). Contracts
 /// see pairs of a group and its frames, by rising group.
-#[derive(Debug, Drop)]
+#[derive(Drop)]
 pub struct SentFrames {
     alloc: Global,
     groups: BTreeMap<u64, Sequence<SentFrame>>,

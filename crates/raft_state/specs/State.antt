@@ -15,19 +15,11 @@ use Rattle.raft_values.specs.declared.server_state.ServerState.TheVariants.{Lear
 use Rattle.raft_values.specs.declared.validate.Invalid.{Invalid}
 use Rattle.raft_values.specs.declared.validate.Invalid.TheVariants.{FirstLogId, PurgedPastGoal, PurgePastCommitted, PurgePastSnapshot, SnapshotPastCommitted, CommittedPastLog}
 use Rattle.raft_values.specs.LogId.{is_past}
-use Rattle.raft_state.specs.LogIdList.{id_at, last_id}
+use Rattle.raft_log_ids.specs.Faults.{or_fault}
+use Rattle.raft_log_ids.specs.LogIdList.{last_id}
 use Rattle.raft_membership.specs.MembershipState.{membership_fault}
 
--- the fault if it is there, else what else there is
-abbrev pub or_fault : {E : Type 0} → Bool → E → Option E → Option E
-or_fault there fault others = if there then Some fault else others
-
 module _ {K : Type 0} where
-  -- the log id before a place
-  abbrev pub id_before : List (LogId K) → ℕ → Option (LogId K)
-  id_before ids zero = None
-  id_before ids (suc index) = id_at ids index
-
   -- the last purged log id: the first one of the log, where anything was purged
   abbrev pub last_purged : ℕ → List (LogId K) → Option (LogId K)
   last_purged zero ids = None

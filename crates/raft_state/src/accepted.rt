@@ -9,7 +9,7 @@ use raft_values::vote::LeaderId;
 
 /// The last log id that a node has accepted of a leader (openraft): the log up to it is known to be
 /// the leader's, so it may be committed with the leader's commits.
-#[derive(Clone, Copy, Debug, PartialEq, Eq)]
+#[derive(Clone, Copy, PartialEq, Eq)]
 pub struct Accepted<NID> {
     leader_id: LeaderId<NID>,
     log_id: Option<LogId<NID>>,

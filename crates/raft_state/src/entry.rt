@@ -8,7 +8,7 @@ use std::alloc::AllocError;
 use std::fmt::{self, Debug, Display};
 
 /// What an entry asks for (openraft).
-#[derive(Debug, Drop, PartialEq, Eq)]
+#[derive(Drop, PartialEq, Eq)]
 pub enum EntryPayload<NID: NodeId, N: Node, D> {
     /// Nothing.
     Blank,
@@ -19,7 +19,7 @@ pub enum EntryPayload<NID: NodeId, N: Node, D> {
 }
 
 /// What stands at one place of a log (openraft).
-#[derive(Debug, Drop, PartialEq, Eq)]
+#[derive(Drop, PartialEq, Eq)]
 pub struct Entry<NID: NodeId, N: Node, D> {
     pub log_id: LogId<NID>,
     pub payload: EntryPayload<NID, N, D>,

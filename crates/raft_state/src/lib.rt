@@ -1,21 +1,16 @@
-//! A node's state of Raft: entries, its list of log ids, and the state itself. It passes on the values,
-//! quorums and memberships of the crates below, so that a caller names this crate alone.
+//! A node's state of Raft: entries, and the state itself. It passes on the values, quorums, memberships
+//! and log ids of the crates below, so that a caller names this crate alone.
 #![tactic(auto)]
 
 pub mod accepted;
 pub mod entry;
-pub mod kept_vec;
-pub mod log_id_list;
-pub mod log_state_reader;
 pub mod raft_entry;
 pub mod raft_state;
 
 pub use accepted::Accepted;
 pub use entry::{Entry, EntryPayload};
-pub use kept_vec::KeptVec;
-pub use log_id_list::{LogIdList, are_keys};
-pub use log_state_reader::LogStateReader;
-pub use raft_entry::{FromAppData, RaftEntry, RaftLogId, RaftPayload};
+pub use raft_entry::{FromAppData, RaftEntry, RaftPayload};
+pub use raft_log_ids::{KeptVec, LogIdList, LogStateReader, RaftLogId, are_keys};
 pub use raft_membership::{
     ChangeMembers, ChangeMembershipError, ClientWriteError, EffectiveMembership, EmptyMembership,
     ForwardToLeader, InProgress, InitializeError, IntoNodes, LackEntry, LearnerNotFound,

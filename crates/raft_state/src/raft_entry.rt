@@ -7,6 +7,7 @@ ghost use Rattle.raft_membership.specs.declared.membership.Membership.{Membershi
 ghost use Rattle.raft_state.specs.declared.entry.EntryPayload.TheVariants.{Blank, Normal, Membership as Asks};
 
 use crate::entry::{Entry, EntryPayload};
+use raft_log_ids::RaftLogId;
 use raft_membership::membership::Membership;
 use raft_values::log_id::LogId;
 use raft_values::node::{Node, NodeId, default_id};
@@ -26,25 +27,6 @@ pub trait RaftPayload<NID: NodeId, N: Node> {
     /// The membership that it asks for.
     fn get_membership(&self) -> Option<&Membership<NID, N>>
         ensures { option_copied result ≡ asked_membership self.now };
-}
-
-/// What has a log id (openraft).
-pub trait RaftLogId<NID: NodeId> {
-    // Its log id.
-    ghost id: { Self → Id NID };
-    // The same thing with another log id.
-    ghost with_id: { Self → Id NID → Self };
-
-    /// Its log id.
-    fn get_log_id(&self) -> &LogId<NID>
-        ensures { result.now ≡ id self.now };
-
-    /// Gives it another log id.
-    fn set_log_id(&mut self, log_id: &LogId<NID>)
-        ensures { self.new ≡ with_id self.old log_id.now };
-
-    // It has the log id that it was given.
-    ghost given_id: { (x : Self) (i : Id NID) → id (with_id x i) ≡ i };
 }
 
 /// An entry, as far as Raft makes it (openraft; here the parameter is the type of memberships, and
@@ -104,22 +86,6 @@ impl<NID: NodeId, N: Node, D> RaftPayload<NID, N> for Entry<NID, N, D> {
     fn get_membership(&self) -> Option<&Membership<NID, N>> {
         self.payload.get_membership()
     }
-}
-
-impl<NID: NodeId> RaftLogId<NID> for LogId<NID> {
-    ghost id = { λ x. x };
-
-    ghost with_id = { λ x i. i };
-
-    fn get_log_id(&self) -> &LogId<NID> {
-        self
-    }
-
-    fn set_log_id(&mut self, log_id: &LogId<NID>) {
-        *self = *log_id;
-    }
-
-    ghost given_id = { λ x i. refl };
 }
 
 impl<NID: NodeId, N: Node, D> RaftLogId<NID> for Entry<NID, N, D> {

@@ -3,7 +3,7 @@ ghost use Rattle.std.specs.Prelude.{◌≡◌, ◌↔◌, ◌+◌, ◌<◌, ◌^
 ghost use Rattle.std.specs.List.{slice_get};
 ghost use Rattle.std.specs.Option.{option_copied};
 ghost use Rattle.raft_values.specs.LogId.{is_past};
-ghost use Rattle.raft_state.specs.LogIdList.{AllGoOn, HasFewerKeys, HaveOneLeader, extended, id_at, last_id, purged};
+ghost use Rattle.raft_log_ids.specs.LogIdList.{AllGoOn, HasFewerKeys, HaveOneLeader, extended, id_at, last_id, purged};
 ghost use Rattle.raft_membership.specs.Membership.{is_voter};
 ghost use Rattle.raft_membership.specs.MembershipState.{committed_upto};
 ghost use Rattle.raft_values.specs.declared.server_state.ServerState.TheVariants.{Learner};
@@ -11,9 +11,9 @@ ghost use Rattle.raft_state.specs.State.{first_leader, no_io};
 ghost use Rattle.raft_state.specs.State.{accepted_under, begins_at, first_vote, last_purged, part_of, purge_fault, state_fault};
 
 use crate::accepted::Accepted;
-use crate::log_id_list::LogIdList;
-use crate::log_state_reader::LogStateReader;
-use crate::raft_entry::RaftLogId;
+use raft_log_ids::RaftLogId;
+use raft_log_ids::log_id_list::LogIdList;
+use raft_log_ids::log_state_reader::LogStateReader;
 use raft_membership::membership_state::MembershipState;
 use raft_membership::snapshot_meta::SnapshotMeta;
 use raft_values::instant::Instant;
@@ -29,7 +29,7 @@ use raft_values::vote_state_reader::VoteStateReader;
 use std::alloc::{AllocError, Global};
 
 /// What a node knows of its group (openraft).
-#[derive(Debug, Drop)]
+#[derive(Drop)]
 pub struct RaftState<NID: NodeId, N: Node, I: Instant> {
     /// The vote, and when it was last renewed.
     pub vote: UTime<Vote<NID>, I>,

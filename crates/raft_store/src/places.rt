@@ -8,7 +8,7 @@ use raft_state::LogId;
 use std::ops::Range;
 
 /// Where a log begins and ends.
-#[derive(Clone, Copy, Debug)]
+#[derive(Clone, Copy)]
 pub struct Bounds {
     /// The log id up to which it is purged, if it is.
     pub purged: Option<LogId<u64>>,

@@ -5,7 +5,7 @@ ghost use Rattle.raft_values.specs.LogId.{next_place};
 use raft_state::LogId;
 
 /// The entries that were put last. They are the end of their group's log.
-#[derive(Debug, Drop)]
+#[derive(Drop)]
 pub struct Recent {
     /// The group.
     pub group: u64,

@@ -1,59 +1,98 @@
 //! The calls of any storage with such snapshots, each behind a function without clauses.
 
-use crate::values::{entries, log_id, place_or_none, snapshot};
-use raft_group_step::Entries;
+use raft_group_step::{Entries, LoggedMembership, SnapshotMeta};
 use raft_group_storage::{GroupStorage, LoadedGroup};
-use raft_messages::{SnapshotBytes, SnapshotHead};
-use raft_rows::number;
-use raft_state::{BasicNode, Bytes, LogId, Vote};
-use std::alloc::Global;
+use raft_messages::SnapshotBytes;
+use raft_row_values::{entries, log_id, log_id_if_any, membership, vote};
+use raft_rows::{bytes, number};
+use raft_state::{BasicNode, Bytes, LogId};
+use std::alloc::{AllocError, Global};
 
+// Entries of one leader from this log id on.
 fn put<S: GroupStorage>(
     storage: &mut S,
     alloc: Global,
     group: u64,
-    place: u64,
-    term: u64,
+    first: LogId<u64>,
     words: &[&str],
 ) -> Result<(), S::Fault> {
-    let entries = entries(alloc, term, place, words)?;
-    storage.put_entries(group, place, &entries)
+    let entries = entries(alloc, first, words)?;
+    storage.put_entries(group, first.index, &entries)
+}
+
+// A membership with its log id, as `1-1-0=1,2/1=a,2=b`, or `-`.
+fn logged(
+    alloc: Global,
+    word: &str,
+) -> Result<Option<LoggedMembership<u64, BasicNode>>, AllocError> {
+    match word.split_once('=') {
+        Some((id, members)) => Ok(Some(LoggedMembership {
+            log_id: log_id(id),
+            membership: membership(alloc, members)?,
+        })),
+        None => Ok(None),
+    }
+}
+
+// A snapshot up to a log id, with the machine's bytes.
+fn snapshot(
+    alloc: Global,
+    last_log_id: LogId<u64>,
+    members: &str,
+    state: &str,
+) -> Result<SnapshotBytes, AllocError> {
+    let state = bytes(alloc, state)?;
+    let bytes = Bytes::from_slice(alloc, state.as_slice())?;
+    let last_membership = logged(alloc, members)?;
+    let meta = SnapshotMeta {
+        last_log_id,
+        last_membership,
+    };
+    Ok(SnapshotBytes { meta, bytes })
 }
 
 fn set_snapshot<S: GroupStorage<Snapshot = SnapshotBytes>>(
     storage: &mut S,
     alloc: Global,
     group: u64,
-    last: LogId<u64>,
-    membership: &str,
-    word: &str,
+    [last, members, state]: [&str; 3],
 ) -> Result<(), S::Fault> {
-    let snapshot = snapshot(alloc, last, membership, word)?;
+    let snapshot = snapshot(alloc, log_id(last), members, state)?;
     storage.set_snapshot(group, &snapshot)
 }
 
+// A call with one value.
+fn set<S: GroupStorage>(
+    storage: &mut S,
+    group: u64,
+    verb: &str,
+    word: &str,
+) -> Option<Result<(), S::Fault>> {
+    match verb {
+        "vote" => Some(storage.set_vote(group, vote(word))),
+        "cut-from" => Some(storage.cut_from(group, number(word))),
+        "remove-up-to" => Some(storage.remove_up_to(group, log_id(word))),
+        "start-after" => Some(storage.start_after(group, log_id(word))),
+        _ => None,
+    }
+}
+
 /// What the call of a row that stores was told.
-pub fn stored<S: GroupStorage<Snapshot = SnapshotBytes>>(
+pub fn store<S: GroupStorage<Snapshot = SnapshotBytes>>(
     storage: &mut S,
     alloc: Global,
     group: u64,
     words: &[&str],
 ) -> Option<Result<(), S::Fault>> {
-    Some(match words {
-        ["make"] => storage.make_group(group),
-        ["vote", term, node] => storage.set_vote(group, Vote::new(number(term), number(node))),
-        ["put", place, term, texts @ ..] => {
-            put(storage, alloc, group, number(place), number(term), texts)
+    match *words {
+        ["make"] => Some(storage.make_group(group)),
+        ["put", first, ref texts @ ..] => Some(put(storage, alloc, group, log_id(first), texts)),
+        ["set-snapshot", last, members, state] => {
+            Some(set_snapshot(storage, alloc, group, [last, members, state]))
         }
-        ["cut-from", place] => storage.cut_from(group, number(place)),
-        ["remove-up-to", place] => storage.remove_up_to(group, log_id(6, number(place))),
-        ["start-after", place] => storage.start_after(group, log_id(6, number(place))),
-        ["set-snapshot", place, membership, text] => {
-            let last = log_id(6, number(place));
-            set_snapshot(storage, alloc, group, last, membership, text)
-        }
-        _ => return None,
-    })
+        [verb, word] => set(storage, group, verb, word),
+        _ => None,
+    }
 }
 
 /// The ids of the groups.
@@ -69,7 +108,7 @@ pub fn loaded<S: GroupStorage>(
     storage.load(alloc, group)
 }
 
-/// The log's entries above a place, up to another.
+/// The log's entries above a log id, up to another.
 pub fn between<S: GroupStorage>(
     storage: &mut S,
     alloc: Global,
@@ -77,7 +116,7 @@ pub fn between<S: GroupStorage>(
     prev: &str,
     last: &str,
 ) -> Result<Entries<u64, BasicNode, Bytes>, S::Fault> {
-    storage.entries_between(alloc, group, place_or_none(prev), place_or_none(last))
+    storage.entries_between(alloc, group, log_id_if_any(prev), log_id_if_any(last))
 }
 
 pub fn kept<S: GroupStorage>(
@@ -86,18 +125,4 @@ pub fn kept<S: GroupStorage>(
     group: u64,
 ) -> Result<Option<S::Snapshot>, S::Fault> {
     storage.snapshot(alloc, group)
-}
-
-fn last_of(head: &SnapshotHead) -> (LogId<u64>, Option<LogId<u64>>) {
-    (head.last, head.membership.map(|(id, _)| id))
-}
-
-/// The last log id that the snapshot covers, and that of its membership.
-pub fn covered<S: GroupStorage>(
-    storage: &mut S,
-    alloc: Global,
-    group: u64,
-) -> Option<(LogId<u64>, Option<LogId<u64>>)> {
-    let snapshot = storage.snapshot(alloc, group).ok()??;
-    Some(last_of(&S::head(&snapshot)))
 }

@@ -1,70 +1,136 @@
 //! Which call the words of a row name.
 
-use crate::calls::{between, covered, ids, kept, loaded, stored};
-use raft_content_log::uses::put_key;
-use raft_content_log::{PlainFault, PlainLog};
-use raft_machines::AddingMachine;
+use crate::calls::{between, ids, kept, loaded, store};
+use crate::node::{Fault, Kept, Node};
+use crate::texts::{push_answer, push_entries, push_fault, push_group, push_snapshot};
 use raft_rows::{Answer, Rows, bytes, number};
-use raft_store::Store;
-use std::alloc::Global;
+use std::alloc::{AllocError, Global};
 
-type Groups = Store<AddingMachine, PlainLog>;
+/// Whether there was memory for an answer.
+type Told = Result<(), AllocError>;
 
-/// What the calls are made on.
-#[derive(Drop)]
-pub struct Calls {
-    store: Groups,
+// ---- readings
+
+fn push_ids(store: &mut Kept, alloc: Global, text: &mut String) -> Told {
+    match ids(store, alloc) {
+        Ok(ids) => write!(text, "{ids:?}"),
+        Err(why) => push_fault(text, &why),
+    }
 }
 
-impl Calls {
-    pub fn new(alloc: Global) -> Calls {
-        Calls {
-            store: Store::new(alloc, PlainLog::new(alloc)),
+fn push_loaded(store: &mut Kept, alloc: Global, group: u64, text: &mut String) -> Told {
+    match loaded(store, alloc, group) {
+        Ok(loaded) => push_group(text, &loaded),
+        Err(why) => push_fault(text, &why),
+    }
+}
+
+fn push_between(
+    store: &mut Kept,
+    alloc: Global,
+    group: u64,
+    [prev, last]: [&str; 2],
+    text: &mut String,
+) -> Told {
+    match between(store, alloc, group, prev, last) {
+        Ok(entries) => push_entries(text, entries.as_slice()),
+        Err(why) => push_fault(text, &why),
+    }
+}
+
+fn push_kept(store: &mut Kept, alloc: Global, group: u64, text: &mut String) -> Told {
+    match kept(store, alloc, group) {
+        Ok(Some(snapshot)) => push_snapshot(text, &snapshot),
+        Ok(None) => text.push_str("-"),
+        Err(why) => push_fault(text, &why),
+    }
+}
+
+fn push_stored(text: &mut String, stored: &Result<(), Fault>) -> Told {
+    match stored {
+        Ok(()) => text.push_str("ok"),
+        Err(why) => push_fault(text, why),
+    }
+}
+
+// A call of a group's part of the store.
+fn ask_store(
+    at: &mut Kept,
+    alloc: Global,
+    group: u64,
+    words: &[&str],
+    text: &mut String,
+) -> Option<Told> {
+    match *words {
+        ["load"] => Some(push_loaded(at, alloc, group, text)),
+        ["snapshot"] => Some(push_kept(at, alloc, group, text)),
+        ["between", prev, last] => Some(push_between(at, alloc, group, [prev, last], text)),
+        _ => {
+            let stored = store(at, alloc, group, words)?;
+            Some(push_stored(text, &stored))
         }
     }
 }
 
-/// A store over a log that has one key of one group.
-fn store_with(alloc: Global, group: u64, key: &str, value: &str) -> Result<Groups, PlainFault> {
-    let key = bytes(alloc, key)?;
-    let value = bytes(alloc, value)?;
-    let mut log = PlainLog::new(alloc);
-    if !key.is_empty() {
-        put_key(alloc, &mut log, group, key, value)?;
-    }
-    Ok(Store::new(alloc, log))
-}
-
-/// The answer to a row about a group.
-fn answered(store: &mut Groups, alloc: Global, group: u64, words: &[&str]) -> Option<Answer> {
-    Some(match *words {
-        ["load"] => Answer::shown(alloc, &loaded(store, alloc, group)),
-        ["between", prev, last] => {
-            Answer::shown(alloc, &between(store, alloc, group, prev, last))
+impl Node {
+    // A new node, one that gets a group, or is on another log.
+    fn change(&mut self, alloc: Global, words: &[&str]) -> bool {
+        match *words {
+            ["node", id] => {
+                *self = Node::new(alloc, number(id));
+                true
+            }
+            ["add", group] => self.add(number(group)),
+            ["begin-with", group, key, value] => self.begin_with(alloc, number(group), key, value),
+            ["again"] => {
+                self.reopen(alloc);
+                true
+            }
+            _ => {
+                self.reset();
+                true
+            }
         }
-        ["snapshot"] => Answer::shown(alloc, &kept(store, alloc, group)),
-        ["head"] => Answer::shown(alloc, &covered(store, alloc, group)),
-        _ => Answer::shown(alloc, &stored(store, alloc, group, words)?),
-    })
+    }
+
+    fn take_words(
+        &mut self,
+        alloc: Global,
+        [now, peer, word]: [&str; 3],
+        text: &mut String,
+    ) -> Told {
+        let piece = bytes(alloc, word)?;
+        let answer = self.take(alloc, number(now), number(peer), piece.as_slice());
+        push_answer(text, &answer)
+    }
+
+    fn told(&mut self, alloc: Global, words: &[&str], text: &mut String) -> Option<Told> {
+        match *words {
+            ["groups"] => Some(push_ids(&mut self.groups.storage, alloc, text)),
+            ["at", now, "from", peer, word] => {
+                Some(self.take_words(alloc, [now, peer, word], text))
+            }
+            ["node" | "add" | "begin-with" | "again" | "reset", ..] => {
+                Some(text.push_str(if self.change(alloc, words) {
+                    "ok"
+                } else {
+                    "failed"
+                }))
+            }
+            [group, ref words @ ..] => {
+                ask_store(&mut self.groups.storage, alloc, number(group), words, text)
+            }
+            [] => None,
+        }
+    }
 }
 
-impl Rows for Calls {
+impl Rows for Node {
     fn answer(&mut self, alloc: Global, words: &[&str]) -> Option<Answer> {
-        if let ["begin-with", group, key, value] = *words {
-            return Some(match store_with(alloc, number(group), key, value) {
-                Ok(store) => {
-                    self.store = store;
-                    Answer::Word("()")
-                }
-                Err(_) => Answer::NoMemory,
-            });
-        }
-        if let ["groups"] = *words {
-            return Some(Answer::shown(alloc, &ids(&mut self.store, alloc)));
-        }
-        let [group, words @ ..] = words else {
-            return None;
-        };
-        answered(&mut self.store, alloc, number(group), words)
+        let mut text = String::new(alloc);
+        Some(match self.told(alloc, words, &mut text)? {
+            Ok(()) => Answer::Text(text),
+            Err(_) => Answer::NoMemory,
+        })
     }
 }

@@ -11,7 +11,7 @@ use std::marker::Model;
 
 /// A snapshot (own): the list of entries up to and with the one of a log id, and the last membership
 /// among them, with the log id of its entry.
-#[derive(Debug, Drop)]
+#[derive(Drop)]
 pub struct GroupSnapshot {
     last: LogId<u64>,
     membership: Option<LoggedMembership<u64, BasicNode>>,

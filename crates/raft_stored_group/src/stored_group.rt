@@ -12,7 +12,7 @@ use std::marker::Model;
 
 /// What a node keeps of a group (own): whether it has the group, the vote, the snapshot, the log id
 /// up to which the log is purged, and the entries above it.
-#[derive(Debug, Drop)]
+#[derive(Drop)]
 pub struct StoredGroup {
     pub(crate) present: bool,
     pub(crate) vote: Vote<u64>,

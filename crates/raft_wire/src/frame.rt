@@ -23,7 +23,7 @@ pub enum FrameKind {
 }
 
 /// A message of a group, as one node sends it to another (own). Its snapshot is bytes of the machine.
-#[derive(Debug, Drop)]
+#[derive(Drop)]
 pub struct Frame {
     /// The group that it is about.
     pub group: u64,

@@ -29,9 +29,9 @@ fn written_again(alloc: Global, bytes: &[u8]) -> Answer {
     }
 }
 
-/// The entry that the bytes are.
+/// The log id of the entry that the bytes are.
 fn shown(alloc: Global, bytes: &[u8]) -> Answer {
-    Answer::shown(alloc, &entry_of(alloc, bytes))
+    Answer::shown(alloc, &entry_of(alloc, bytes).map(|it| it.log_id))
 }
 
 /// What is found in bytes that are to be an entry, by name. An entry is written as its bytes.

@@ -5,13 +5,29 @@ use raft_rows::{Answer, bytes};
 use raft_wire::{Fed, Feeder, Frame, FrameError, FrameKind};
 use std::alloc::Global;
 
-fn shown(alloc: Global, fed: Fed) -> Answer {
-    let Fed { used, frame } = fed;
-    Answer::shown(alloc, &(used, frame))
-}
-
 fn kind_of(frame: &Frame) -> FrameKind {
     frame.kind()
+}
+
+// Who sent a frame, to whom, and its kind.
+fn told_of(frame: &Frame) -> (u64, u64, FrameKind) {
+    (
+        frame.message.sender,
+        frame.message.addressee,
+        kind_of(frame),
+    )
+}
+
+// How many bytes were used, and what is told of the frame behind them.
+fn shown(alloc: Global, fed: Fed) -> Answer {
+    match &fed.frame {
+        Ok(Some(frame)) => Answer::shown(
+            alloc,
+            &(fed.used, Ok::<_, FrameError>(Some(told_of(frame)))),
+        ),
+        Ok(None) => Answer::shown(alloc, &(fed.used, Ok::<Option<u64>, FrameError>(None))),
+        Err(error) => Answer::shown(alloc, &(fed.used, Err::<u64, _>(*error))),
+    }
 }
 
 fn frame_at(alloc: Global, stream: &[u8]) -> Result<Option<Frame>, FrameError> {

@@ -4,9 +4,9 @@ use crate::calls::{are, snapshot_of, written_snapshot};
 use raft_rows::Answer;
 use std::alloc::Global;
 
-/// What the body of some bytes covers, and the machine's bytes.
+/// The last log id that the body of some bytes covers, and the machine's bytes.
 fn shown(alloc: Global, bytes: &[u8]) -> Answer {
-    let parts = snapshot_of(alloc, bytes).map(|it| (it.meta, it.bytes));
+    let parts = snapshot_of(alloc, bytes).map(|it| (it.meta.last_log_id, it.bytes));
     Answer::shown(alloc, &parts)
 }
 

@@ -27,7 +27,7 @@ pub type Ended = raft_member::Ended<GroupSnapshot>;
 pub type Broken = raft_member::Broken<AllocError>;
 
 /// A member of a group at a node, with what the node has stored of the group (own).
-#[derive(Debug, Drop)]
+#[derive(Drop)]
 pub struct Member {
     /// It, without that.
     pub replica: Replica,

@@ -20,7 +20,7 @@ use std::alloc::{AllocError, Global};
 use std::mem;
 
 /// An event, and the number of storing commands after which it is to stop, if it is (own).
-#[derive(Debug, Drop)]
+#[derive(Drop)]
 pub struct PlannedEvent {
     /// What is to happen.
     pub event: WorldEvent,
@@ -29,7 +29,7 @@ pub struct PlannedEvent {
 }
 
 /// What became of an event (own).
-#[derive(Clone, Copy, Debug, PartialEq, Eq)]
+#[derive(Clone, Copy, PartialEq, Eq)]
 pub enum Mark {
     /// It ran to its end.
     Done,

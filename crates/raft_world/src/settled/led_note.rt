@@ -9,7 +9,7 @@ use raft_stored_group::StoredGroup;
 use std::alloc::AllocError;
 
 // A note of a node that led at the end of an event: the node, its vote, and the list that it held.
-#[derive(Debug, Drop)]
+#[derive(Drop)]
 pub(crate) struct LedNote {
     pub(crate) node: u64,
     pub(crate) vote: Vote<u64>,

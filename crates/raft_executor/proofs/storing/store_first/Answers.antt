@@ -1,6 +1,6 @@
 -- Each command takes from the room what it stores.
 use Rattle.raft_executor.proofs.StoringLemmas.{all_are_stored, next_given, nothing_yet, one_fails, one_is_stored}
-use Rattle.raft_state.proofs.GrowthLemmas.{on_err}
+use Rattle.raft_log_ids.proofs.GrowthLemmas.{on_err}
 use Rattle.raft_executor.proofs.storing.store_first.Goals as goal
 
 pub loop-command-init : goal.loop-command-init

@@ -1,6 +1,6 @@
 use Rattle.std.proofs.Common.{◌≡◌, drop}
 use Rattle.std.specs.List.{list_any}
-use Rattle.raft_state.specs.LogIdList.{ids_of}
+use Rattle.raft_log_ids.specs.LogIdList.{ids_of}
 use Rattle.raft_known_state.specs.KnownState.{is_of_leader_from}
 use Rattle.raft_known_state.proofs.key_leaders.has_leader_from.Given as goal
 

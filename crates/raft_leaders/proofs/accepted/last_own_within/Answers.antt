@@ -3,8 +3,8 @@ use Rattle.std.proofs.Common.{◌≡◌, ◌∙◌, ◌+◌, ◌-◌, ◌<◌, a
 use Rattle.std.specs.Prelude.{filter, [], None}
 use Rattle.std.specs.List.{last_or}
 use Rattle.raft_values.specs.LogId.{log_id_of}
-use Rattle.raft_state.specs.LogIdList.{IsBelowNext, end_of_key, ids_of, leader_ids}
-use Rattle.raft_state.proofs.KeyTestLemmas.{rest_whole}
+use Rattle.raft_log_ids.specs.LogIdList.{IsBelowNext, end_of_key, ids_of, leader_ids}
+use Rattle.raft_log_ids.proofs.KeyTestLemmas.{rest_whole}
 use Rattle.raft_leaders.specs.Accepted.{last_own_within}
 use Rattle.raft_leaders.proofs.OwnLemmas.{is_own_within, found_is, key_apart, none_before_key, none_if, none_more}
 use Rattle.raft_leaders.proofs.accepted.last_own_within.Goals as goal

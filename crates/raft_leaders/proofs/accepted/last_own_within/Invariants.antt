@@ -1,7 +1,7 @@
 -- The keys so far, from the last one on, tell none of the leader's own between the places.
 use Rattle.std.proofs.Common.{◌≡◌, ◌-◌, [], length, drop}
 use Rattle.std.specs.Prelude.{filter}
-use Rattle.raft_state.specs.LogIdList.{ids_of}
+use Rattle.raft_log_ids.specs.LogIdList.{ids_of}
 use Rattle.raft_leaders.proofs.OwnLemmas.{is_own_within}
 use Rattle.raft_leaders.proofs.accepted.last_own_within.Given as goal
 

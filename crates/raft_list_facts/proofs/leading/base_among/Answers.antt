@@ -1,7 +1,7 @@
 -- The key is the leader's own, or what stands before the next one is known.
 use Rattle.std.proofs.Common.{◌+◌, ◌∙◌, ap, sym, get_or, drop, arith}
 use Rattle.raft_values.specs.LogId.{log_id_of}
-use Rattle.raft_state.specs.LogIdList.{ids_of}
+use Rattle.raft_log_ids.specs.LogIdList.{ids_of}
 use Rattle.raft_list_facts.specs.Leads.{before_own}
 use Rattle.raft_list_facts.proofs.KeyBaseLemmas.{if_another, if_own, key_up_to, keys_rise, last_past, last_within, next_key}
 use Rattle.raft_list_facts.specs.declared.leading.Base.TheVariants.{UpTo}

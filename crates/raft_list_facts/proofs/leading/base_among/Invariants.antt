@@ -1,5 +1,5 @@
 use Rattle.std.proofs.Common.{◌≡◌, drop}
-use Rattle.raft_state.specs.LogIdList.{ids_of}
+use Rattle.raft_log_ids.specs.LogIdList.{ids_of}
 use Rattle.raft_list_facts.specs.Leads.{before_own}
 use Rattle.raft_list_facts.proofs.leading.base_among.Given as goal
 

@@ -1,5 +1,5 @@
 -- Each setting is what its key says; one of no use is told.
-use Rattle.std.proofs.Common.{◌≡◌, ◌⊎◌, ◌∙◌, Option, Some, None, Result, Ok, Err, IfErr, IsErrAnd, ok_or, inr, refl, sym}
+use Rattle.std.proofs.Common.{◌≡◌, ◌⊎◌, ◌∙◌, Option, Some, None, Result, Ok, Err, IfOk, IfErr, IsErrAnd, ok_or, inr, refl, sym}
 use Rattle.std.proofs.lemmas.Result.{err_from_is_err_and}
 use Rattle.toml.specs.Data.{Members}
 use Rattle.toml.specs.View.{table_view}
@@ -50,3 +50,13 @@ returns-in_err-size_or-2-clause-err c =
     let why = refused _ c.in_err-size_or-2.field-0.0 c.in_err-size_or-2.ensures in
     none_left (table_view c.args.table.now) c.from_residual-in_err-size_or-2.result c.in_err-size_or-2.field-0.0 c.from_residual-in_err-size_or-2.ensures.1 why.0
     (λ s has. let no = sym has.purge_threshold ∙ why.1 in absurd cc)
+
+-- and there are none
+not_given : {T : Type 0} (P : T → Type 0) (r : Result T Error) (e : Error) → IsErrAnd r (λ y. y ≡ e) → IfOk r P
+not_given P r e is = let p = err_from_is_err_and r is in rw p.1 tt
+
+pub returns-in_err-size_or-clause-ok : goal.returns-in_err-size_or-clause-ok
+returns-in_err-size_or-clause-ok c = not_given _ c.from_residual-in_err-size_or.result _ c.from_residual-in_err-size_or.ensures.1
+
+pub returns-in_err-size_or-2-clause-ok : goal.returns-in_err-size_or-2-clause-ok
+returns-in_err-size_or-2-clause-ok c = not_given _ c.from_residual-in_err-size_or-2.result _ c.from_residual-in_err-size_or-2.ensures.1

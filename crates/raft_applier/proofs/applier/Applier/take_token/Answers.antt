@@ -1,7 +1,7 @@
 use Rattle.std.proofs.Common.{◌∙◌, ap}
 use Rattle.raft_group_step.specs.StoredGroup.{end_place}
 use Rattle.raft_machines.specs.Telling.{untold_of}
-use Rattle.raft_state.proofs.GrowthLemmas.{on_err}
+use Rattle.raft_log_ids.proofs.GrowthLemmas.{on_err}
 use Rattle.raft_applier.proofs.Tokens.{one_more}
 use Rattle.raft_applier.proofs.applier.Applier.take_token.Goals as goal
 

@@ -4,7 +4,7 @@ use Rattle.std.specs.Prelude.{Some}
 use Rattle.std.specs.List.{slice_get}
 use Rattle.std.specs.Option.{option_copied}
 use Rattle.std.proofs.lemmas.Result.{on_ok_weaker}
-use Rattle.raft_state.specs.LogIdList.{last_id}
+use Rattle.raft_log_ids.specs.LogIdList.{last_id}
 use Rattle.raft_commands.specs.declared.command.Command.TheVariants.{AppendInputEntries}
 use Rattle.raft_group_step.specs.StoredGroup.{PutEntries, after_storing, end_place}
 use Rattle.raft_group_step.specs.StepResult.{is_within}

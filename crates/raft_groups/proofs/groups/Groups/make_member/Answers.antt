@@ -1,6 +1,6 @@
 -- Where the second place isn't there the group is stored.
 use Rattle.std.proofs.Common.{[], ◌∷◌, true, inr, subst, sym}
-use Rattle.raft_state.proofs.GrowthLemmas.{on_err}
+use Rattle.raft_log_ids.proofs.GrowthLemmas.{on_err}
 use Rattle.raft_group_step.specs.StoredGroup.{StoredGroup}
 use Rattle.raft_group_step.specs.GroupState.{no_group}
 use Rattle.raft_groups.proofs.groups.Groups.make_member.Goals as goal

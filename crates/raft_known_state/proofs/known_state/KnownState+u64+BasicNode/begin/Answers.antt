@@ -1,7 +1,7 @@
 -- What is read is known: the purge point, and no entry yet.
 use Rattle.std.proofs.Common.{◌∙◌, ap, sym, subst, refl, None}
 use Rattle.raft_values.specs.LogId.{next_place}
-use Rattle.raft_state.specs.LogIdList.{purged}
+use Rattle.raft_log_ids.specs.LogIdList.{purged}
 use Rattle.raft_known_state.specs.KnownState.{AreInOrder, purged_ids, meta_of}
 use Rattle.raft_known_state.proofs.OrderLemmas.{none_in_order}
 use Rattle.raft_known_state.proofs.KnownStateLemmas.{StateOf, HasRead, read}

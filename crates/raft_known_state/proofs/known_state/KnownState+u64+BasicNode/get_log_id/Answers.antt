@@ -1,5 +1,5 @@
 use Rattle.std.proofs.Common.{ap, ◌∙◌}
-use Rattle.raft_state.specs.LogIdList.{id_at}
+use Rattle.raft_log_ids.specs.LogIdList.{id_at}
 use Rattle.raft_known_state.proofs.KnownStateLemmas.{id_at-known}
 use Rattle.raft_known_state.proofs.known_state.KnownState+u64+BasicNode.get_log_id.Goals as goal
 

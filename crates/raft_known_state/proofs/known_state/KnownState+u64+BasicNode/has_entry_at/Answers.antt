@@ -1,7 +1,7 @@
 -- At the purge point or above it the log id at a place is that of the entry there.
 use Rattle.std.proofs.Common.{◌≤◌, ◌∙◌, ap, subst}
 use Rattle.std.specs.Option.{is_some}
-use Rattle.raft_state.specs.LogIdList.{id_at}
+use Rattle.raft_log_ids.specs.LogIdList.{id_at}
 use Rattle.raft_known_state.proofs.KnownStateLemmas.{id_at-known, some_found}
 use Rattle.raft_known_state.proofs.known_state.KnownState+u64+BasicNode.has_entry_at.Goals as goal
 

@@ -1,7 +1,7 @@
 -- The log id at the place is that of the log's entry there, if the place is above the purge point.
 use Rattle.std.proofs.Common.{◌≤◌, ◌<◌, ◌∙◌, ap, subst, Some}
 use Rattle.std.specs.Option.{option_eq}
-use Rattle.raft_state.specs.LogIdList.{id_at}
+use Rattle.raft_log_ids.specs.LogIdList.{id_at}
 use Rattle.raft_group_step.specs.Values.{log_id_eq}
 use Rattle.raft_known_state.proofs.KnownStateLemmas.{id_at-known, is_found, none_found}
 use Rattle.raft_known_state.proofs.known_state.KnownState+u64+BasicNode.has_log_id.Goals as goal

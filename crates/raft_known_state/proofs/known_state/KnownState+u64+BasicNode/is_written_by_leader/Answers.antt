@@ -1,7 +1,7 @@
 -- The keys tell the log ids, and those above the purge point are the entries'.
 use Rattle.std.proofs.Common.{◌∙◌, ap}
 use Rattle.std.specs.List.{list_any}
-use Rattle.raft_state.specs.LogIdList.{ids_of}
+use Rattle.raft_log_ids.specs.LogIdList.{ids_of}
 use Rattle.raft_group_step.specs.StoredGroup.{first_place}
 use Rattle.raft_known_state.specs.KnownState.{is_of_leader_from}
 use Rattle.raft_known_state.proofs.KeyLeaderLemmas.{written-known}

@@ -1,7 +1,7 @@
 -- The last key alone tells the last log id.
 use Rattle.std.proofs.Common.{◌≡◌, ◌-◌, ◌∙◌, inl, inr, ap, sym, subst, drop, length, arith}
-use Rattle.raft_state.specs.LogIdList.{PlacesRise, last_id}
-use Rattle.raft_state.proofs.LogIdListLemmas.{last_id-ids_of}
+use Rattle.raft_log_ids.specs.LogIdList.{PlacesRise, last_id}
+use Rattle.raft_log_ids.proofs.LogIdListLemmas.{last_id-ids_of}
 use Rattle.raft_known_state.proofs.TermLemmas.{last_left, last_rises}
 use Rattle.raft_known_state.proofs.known_state.KnownState+u64+BasicNode.keys_of_leader.Goals as goal
 

@@ -1,5 +1,5 @@
 use Rattle.std.proofs.Common.{ap, ◌∙◌}
-use Rattle.raft_state.specs.LogIdList.{last_id}
+use Rattle.raft_log_ids.specs.LogIdList.{last_id}
 use Rattle.raft_known_state.proofs.KnownStateLemmas.{last-known}
 use Rattle.raft_known_state.proofs.known_state.KnownState+u64+BasicNode.last_log_id.Goals as goal
 

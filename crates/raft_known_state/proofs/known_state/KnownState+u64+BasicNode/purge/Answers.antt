@@ -3,7 +3,7 @@ use Rattle.std.proofs.Common.{◌≡◌, ◌+◌, ◌∙◌, ap, sym, subst, dro
 use Rattle.std.proofs.lemmas.Bool.Decides.{nat_tests}
 use Rattle.std.proofs.lemmas.List.Sorted.{IsNonDecreasingBy-drop}
 use Rattle.raft_values.specs.LogId.{next_place}
-use Rattle.raft_state.specs.LogIdList.{purged}
+use Rattle.raft_log_ids.specs.LogIdList.{purged}
 use Rattle.raft_known_state.specs.KnownState.{AreInOrder, KnownState, drop_below}
 use Rattle.raft_known_state.proofs.KnownStateLemmas.{StateOf, both_ok, known_in_order, noted_known, noted_still, removed}
 use Rattle.raft_known_state.proofs.known_state.KnownState+u64+BasicNode.purge.Goals as goal

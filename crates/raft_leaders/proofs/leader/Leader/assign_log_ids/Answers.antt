@@ -1,7 +1,7 @@
 -- The ids that were given.
 use Rattle.std.proofs.Common.{◌≡◌, ◌∙◌, ◌+◌, ap, map, length, refl}
 use Rattle.raft_values.specs.LogId.{next_place}
-use Rattle.raft_state.specs.LogIdList.{leader_ids}
+use Rattle.raft_log_ids.specs.LogIdList.{leader_ids}
 use Rattle.raft_leaders.proofs.GivenLemmas.{ids-with_log_ids}
 use Rattle.raft_leaders.proofs.PeerLemmas.{next_is}
 use Rattle.raft_leaders.proofs.leader.Leader.assign_log_ids.Goals as goal

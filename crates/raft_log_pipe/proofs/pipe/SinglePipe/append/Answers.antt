@@ -26,6 +26,7 @@ use Rattle.std.proofs.lemmas.Result.{on_err_weaker, on_ok_weaker}
 use Rattle.raft_log_pipe.proofs.TornLemmas.{torn_then}
 use Rattle.raft_log_pipe.proofs.PurgeLemmas.{last_on}
 use Rattle.raft_log_pipe.proofs.ReuseLemmas.{left_same}
+use Rattle.raft_log_pipe.proofs.EndLemmas.{not_given, not_ok}
 use Rattle.raft_log_pipe.proofs.pipe.SinglePipe.append.Goals as goal
 
 pub returns-in_err-make_room-clause-err : goal.returns-in_err-make_room-clause-err
@@ -215,3 +216,24 @@ returns-in-Err-NoSpace-clause-reserved g c =
 pub returns-in-Err-NoSpace-clause-fits : goal.returns-in-Err-NoSpace-clause-fits
 returns-in-Err-NoSpace-clause-fits g c =
     subst (λ (items : Batch). IfOk c.put_again.result (λ h. h.offset + record_len items < 2 ^ 64)) c.in-Err-NoSpace.ensures.batch.0 c.put_again.ensures.fits
+
+pub returns-in_err-make_room-clause-pipe : goal.returns-in_err-make_room-clause-pipe
+returns-in_err-make_room-clause-pipe g c = not_ok _ _ c.from_residual.result c.from_residual.ensures.1
+
+pub returns-in_err-make_room-clause-alone : goal.returns-in_err-make_room-clause-alone
+returns-in_err-make_room-clause-alone g c = not_ok _ _ c.from_residual.result c.from_residual.ensures.1
+
+pub returns-in_err-make_room-clause-files : goal.returns-in_err-make_room-clause-files
+returns-in_err-make_room-clause-files g c = not_ok _ _ c.from_residual.result c.from_residual.ensures.1
+
+pub returns-in_err-make_room-clause-first : goal.returns-in_err-make_room-clause-first
+returns-in_err-make_room-clause-first g c = not_ok _ _ c.from_residual.result c.from_residual.ensures.1
+
+pub returns-in_err-make_room-clause-ok : goal.returns-in_err-make_room-clause-ok
+returns-in_err-make_room-clause-ok g c = not_given _ _ c.from_residual.result c.from_residual.ensures.1
+
+pub returns-in_err-make_room-clause-stands : goal.returns-in_err-make_room-clause-stands
+returns-in_err-make_room-clause-stands g c = not_given _ _ c.from_residual.result c.from_residual.ensures.1
+
+pub returns-in_err-make_room-clause-fits : goal.returns-in_err-make_room-clause-fits
+returns-in_err-make_room-clause-fits g c = not_given _ _ c.from_residual.result c.from_residual.ensures.1

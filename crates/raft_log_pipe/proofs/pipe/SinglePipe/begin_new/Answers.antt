@@ -16,6 +16,7 @@ use Rattle.raft_log_pipe.proofs.CausedLemmas.{rises_then}
 use Rattle.raft_log_pipe.proofs.NextLemmas.{begun_changes, made_begun}
 use Rattle.raft_log_pipe.proofs.OthersLemmas.{made_others, refused_others}
 use Rattle.raft_log_pipe.proofs.TakenLemmas.{exit_fault, made_there}
+use Rattle.raft_log_pipe.proofs.EndLemmas.{not_given, not_ok}
 use Rattle.raft_log_pipe.proofs.pipe.SinglePipe.begin_new.Goals as goal
 
 pub returns-in_err-file-clause-goes : goal.returns-in_err-file-clause-goes
@@ -71,3 +72,15 @@ pub returns-clause-others : goal.returns-clause-others
 returns-clause-others g c =
     let met = g.met.F.FileSystem g.world.𝓛 g.world.𝓜 g.world.𝓡 ((λ s x. x), (λ x. x), (λ x. x), λ x. x) in
     made_others c.args.self.now.queue _ _ c.new-id.result (met.is_named c.args.files.now) (made_begun _ _ _ c.in_ok-file.file _ c.in_ok-file.ensures.created (begun_changes _ _ c.in_ok-file.file c.in_ok-writer.writer c.in_ok-writer.ensures.begun)) c.new-id.ensures.queue
+
+pub returns-in_err-file-clause-left : goal.returns-in_err-file-clause-left
+returns-in_err-file-clause-left g c = not_ok _ _ c.from_residual.result c.from_residual.ensures.1
+
+pub returns-in_err-file-clause-takes : goal.returns-in_err-file-clause-takes
+returns-in_err-file-clause-takes g c = not_given _ _ c.from_residual.result c.from_residual.ensures.1
+
+pub returns-in_err-writer-clause-left : goal.returns-in_err-writer-clause-left
+returns-in_err-writer-clause-left g c = not_ok _ _ c.from_residual-in_err-writer.result c.from_residual-in_err-writer.ensures.1
+
+pub returns-in_err-writer-clause-takes : goal.returns-in_err-writer-clause-takes
+returns-in_err-writer-clause-takes g c = not_given _ _ c.from_residual-in_err-writer.result c.from_residual-in_err-writer.ensures.1

@@ -22,6 +22,7 @@ use Rattle.raft_log_disk.specs.Cause.{Rises}
 use Rattle.std.proofs.Common.{refl}
 use Rattle.raft_log_pipe.specs.Caused.{LacksDirectory}
 use Rattle.raft_log_pipe.proofs.CausedLemmas.{exit_cause, lacks_before, rises_then}
+use Rattle.raft_log_pipe.proofs.EndLemmas.{not_given}
 use Rattle.raft_log_pipe.proofs.pipe.SinglePipe.create.Goals as goal
 
 pub returns-clause-pipe : goal.returns-clause-pipe
@@ -122,3 +123,45 @@ returns-in_err-writer-clause-cause g c =
 
 pub returns-in_err-writer-clause-later : goal.returns-in_err-writer-clause-later
 returns-in_err-writer-clause-later g c = no_more_then c.in_ok-file.ensures.later c.in_err-writer.ensures.later
+
+pub returns-in_err-file-clause-pipe : goal.returns-in_err-file-clause-pipe
+returns-in_err-file-clause-pipe g c = not_given _ _ c.from_residual.result c.from_residual.ensures.1
+
+pub returns-in_err-file-clause-paths : goal.returns-in_err-file-clause-paths
+returns-in_err-file-clause-paths g c = not_given _ _ c.from_residual.result c.from_residual.ensures.1
+
+pub returns-in_err-file-clause-settings : goal.returns-in_err-file-clause-settings
+returns-in_err-file-clause-settings g c = not_given _ _ c.from_residual.result c.from_residual.ensures.1
+
+pub returns-in_err-file-clause-bare : goal.returns-in_err-file-clause-bare
+returns-in_err-file-clause-bare g c = not_given _ _ c.from_residual.result c.from_residual.ensures.1
+
+pub returns-in_err-file-clause-alone : goal.returns-in_err-file-clause-alone
+returns-in_err-file-clause-alone g c = not_given _ _ c.from_residual.result c.from_residual.ensures.1
+
+pub returns-in_err-file-clause-holds : goal.returns-in_err-file-clause-holds
+returns-in_err-file-clause-holds g c = not_given _ _ c.from_residual.result c.from_residual.ensures.1
+
+pub returns-in_err-file-clause-first : goal.returns-in_err-file-clause-first
+returns-in_err-file-clause-first g c = not_given _ _ c.from_residual.result c.from_residual.ensures.1
+
+pub returns-in_err-writer-clause-pipe : goal.returns-in_err-writer-clause-pipe
+returns-in_err-writer-clause-pipe g c = not_given _ _ c.from_residual-in_err-writer.result c.from_residual-in_err-writer.ensures.1
+
+pub returns-in_err-writer-clause-paths : goal.returns-in_err-writer-clause-paths
+returns-in_err-writer-clause-paths g c = not_given _ _ c.from_residual-in_err-writer.result c.from_residual-in_err-writer.ensures.1
+
+pub returns-in_err-writer-clause-settings : goal.returns-in_err-writer-clause-settings
+returns-in_err-writer-clause-settings g c = not_given _ _ c.from_residual-in_err-writer.result c.from_residual-in_err-writer.ensures.1
+
+pub returns-in_err-writer-clause-bare : goal.returns-in_err-writer-clause-bare
+returns-in_err-writer-clause-bare g c = not_given _ _ c.from_residual-in_err-writer.result c.from_residual-in_err-writer.ensures.1
+
+pub returns-in_err-writer-clause-alone : goal.returns-in_err-writer-clause-alone
+returns-in_err-writer-clause-alone g c = not_given _ _ c.from_residual-in_err-writer.result c.from_residual-in_err-writer.ensures.1
+
+pub returns-in_err-writer-clause-holds : goal.returns-in_err-writer-clause-holds
+returns-in_err-writer-clause-holds g c = not_given _ _ c.from_residual-in_err-writer.result c.from_residual-in_err-writer.ensures.1
+
+pub returns-in_err-writer-clause-first : goal.returns-in_err-writer-clause-first
+returns-in_err-writer-clause-first g c = not_given _ _ c.from_residual-in_err-writer.result c.from_residual-in_err-writer.ensures.1

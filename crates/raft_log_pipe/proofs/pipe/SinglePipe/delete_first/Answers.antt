@@ -16,6 +16,7 @@ use Rattle.raft_log_disk.specs.Cause.{Rises}
 use Rattle.raft_log_pipe.proofs.CausedLemmas.{call_cause, exit_cause}
 use Rattle.raft_log_disk.proofs.CauseLemmas.{at_err}
 use Rattle.raft_log_pipe.specs.Purging.{AreGone}
+use Rattle.raft_log_pipe.proofs.EndLemmas.{not_ok}
 use Rattle.raft_log_pipe.proofs.pipe.SinglePipe.delete_first.Goals as goal
 
 pub build_file_path-requires : goal.build_file_path-requires
@@ -164,3 +165,27 @@ returns-in_err-delete-clause-stays g c =
 
 pub returns-clause-fresh : goal.returns-clause-fresh
 returns-clause-fresh g c = λ path fd there. deleted_fresh (g.F.FileSystem.disk c.args.files.now) (g.F.FileSystem.disk c.delete.new.self) c.as_str-2.result.now path fd c.in_ok-delete.ensures.ok there
+
+pub returns-in_err-delete-clause-fresh : goal.returns-in_err-delete-clause-fresh
+returns-in_err-delete-clause-fresh g c = not_ok _ _ c.from_residual-in_err-delete.result c.from_residual-in_err-delete.ensures.1
+
+pub returns-in_err-delete-clause-ok : goal.returns-in_err-delete-clause-ok
+returns-in_err-delete-clause-ok g c = not_ok _ _ c.from_residual-in_err-delete.result c.from_residual-in_err-delete.ensures.1
+
+pub returns-in_err-delete-clause-gone : goal.returns-in_err-delete-clause-gone
+returns-in_err-delete-clause-gone g c = not_ok _ _ c.from_residual-in_err-delete.result c.from_residual-in_err-delete.ensures.1
+
+pub returns-in_err-delete-clause-lost : goal.returns-in_err-delete-clause-lost
+returns-in_err-delete-clause-lost g c = not_ok _ _ c.from_residual-in_err-delete.result c.from_residual-in_err-delete.ensures.1
+
+pub returns-in_err-path-clause-fresh : goal.returns-in_err-path-clause-fresh
+returns-in_err-path-clause-fresh g c = not_ok _ _ c.from_residual.result c.from_residual.ensures.1
+
+pub returns-in_err-path-clause-ok : goal.returns-in_err-path-clause-ok
+returns-in_err-path-clause-ok g c = not_ok _ _ c.from_residual.result c.from_residual.ensures.1
+
+pub returns-in_err-path-clause-gone : goal.returns-in_err-path-clause-gone
+returns-in_err-path-clause-gone g c = not_ok _ _ c.from_residual.result c.from_residual.ensures.1
+
+pub returns-in_err-path-clause-lost : goal.returns-in_err-path-clause-lost
+returns-in_err-path-clause-lost g c = not_ok _ _ c.from_residual.result c.from_residual.ensures.1

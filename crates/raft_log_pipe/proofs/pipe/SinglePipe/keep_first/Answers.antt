@@ -1,9 +1,16 @@
-use Rattle.std.proofs.Common.{◌≡◌, ◌⊎◌, inr, ◌+◌, ℕ, List, ◌∷◌, ◌++◌, [], refl, sym, ap, subst, arith, ◌∙◌}
-use Rattle.std.specs.Prelude.{Err}
+use Rattle.std.proofs.Common.{◌≡◌, ◌⊎◌, inl, inr, ◌+◌, ℕ, Result, Ok, IsErrAnd, List, ◌∷◌, ◌++◌, [], refl, sym, ap, subst, arith, ◌∙◌}
+use Rattle.std.specs.Prelude.{Err, IsErrOf, OnErr}
+use Rattle.std.proofs.lemmas.Result.{err_from_is_err_and}
+use Rattle.raft_log_disk.specs.declared.fault.IoFault.{IoFault}
+use Rattle.raft_log_disk.specs.declared.fault.IoFault.TheVariants as fault
+use Rattle.raft_log_files.specs.declared.error.Error.{Error}
+use Rattle.raft_log_files.specs.declared.error.Error.TheVariants.{Memory, Other}
+use Rattle.raft_log_files.specs.declared.error.OtherFault.TheVariants.{NumberOutOfSpan}
+use Rattle.raft_log_files.specs.Error.{io_error}
 use Rattle.raft_log_disk.specs.Cause.{Rises}
 use Rattle.raft_log_disk.specs.Disk.{IsIn, IsNoMove}
 use Rattle.raft_log_disk.proofs.CauseLemmas.{at_err}
-use Rattle.raft_log_disk.proofs.RefusalLemmas.{taken_call}
+use Rattle.raft_log_disk.proofs.RefusalLemmas.{no_more_call, no_more_same, taken_call}
 use Rattle.raft_log_files.specs.FileName.{log_file_name, reserved_name}
 use Rattle.raft_log_pipe.specs.declared.file.ReservedFile.{ReservedFile}
 use Rattle.raft_log_pipe.specs.Alone.{directories_of_pipe}
@@ -13,11 +20,14 @@ use Rattle.raft_log_pipe.specs.Purging.{AreGone}
 use Rattle.raft_log_pipe.specs.Reserved.{AreReserved}
 use Rattle.raft_log_pipe.specs.Taken.{HasLost}
 use Rattle.raft_log_pipe.proofs.AloneLemmas.{with_older}
-use Rattle.raft_log_pipe.proofs.CausedLemmas.{call_cause, exit_cause}
+use Rattle.raft_log_pipe.proofs.CausedLemmas.{call_cause, exit_cause, told_cause}
+use Rattle.raft_log_pipe.specs.Caused.{IsCaused}
 use Rattle.raft_log_pipe.proofs.KeepLemmas.{keep_free, keep_fresh, keep_gone, keep_kept, keep_lost, keep_lost_before, keep_pipe, keep_purged, keep_stays, keep_vacant}
 use Rattle.raft_log_pipe.proofs.PurgeLemmas.{first_number, holds_all}
 use Rattle.raft_log_pipe.proofs.ReuseLemmas.{pipe_with}
-use Rattle.raft_log_pipe.proofs.TakenLemmas.{exit_io, still_taken}
+use Rattle.raft_log_pipe.proofs.TakenLemmas.{exit_error, exit_io, still_taken}
+use Rattle.raft_log_pipe.proofs.TrimLemmas.{front_same}
+use Rattle.raft_log_pipe.proofs.EndLemmas.{not_ok}
 use Rattle.raft_log_pipe.proofs.pipe.SinglePipe.keep_first.Goals as goal
 
 pub build_file_path-requires : goal.build_file_path-requires
@@ -363,3 +373,155 @@ returns-in_err-rename-clause-cause g c =
     exit_cause (Unit {0}) (Rises 1 a b) ⊥ ⊥ lost c.from_residual-in_err-rename.result c.in_err-rename.field-0.0 c.from_residual-in_err-rename.ensures.1
     (still_taken (Unit {0}) (Unit {0}) absent (Rises 1 a b) lost (Rises 1 a b) c.in_err-rename.field-0.0 (keep_lost p v f d e dir c.as_str.result.now c.as_str-2.result.now c.args.room named named_e c.requires.pipe c.requires.some at c.remove-first.ensures.items c.requires.can c.index.ensures from to) (λ x. x)
     (call_cause (Unit {0}) (Unit {0}) absent ⊥ a b c.in_err-rename.field-0.0 c.in_err-rename.ensures.cause))
+
+-- ---- what an early end leaves, and why it came
+
+at_end : {T E : Type 0} (Q : E → Type 0) (P : Type 0) (r : Result T E) → IsErrAnd r Q → P → OnErr r P
+at_end Q P r is x = let p = err_from_is_err_and r is in rw p.1 x
+
+in_span : {T : Type 0} (r : Result T Error) (e : Error) → IsErrAnd r (λ y. y ≡ e) → (e ≡ Other NumberOutOfSpan → ⊥) → IsErrOf r (Other NumberOutOfSpan) → ⊥
+in_span r e is other h = let p = err_from_is_err_and r is in let same : e ≡ Other NumberOutOfSpan = cc in other same
+
+io_in_span : (x : IoFault) → io_error x ≡ Other NumberOutOfSpan → ⊥
+io_in_span fault.Memory h = absurd cc
+io_in_span fault.Refused h = absurd cc
+io_in_span fault.NoSpace h = absurd cc
+io_in_span fault.NotFound h = absurd cc
+
+pub returns-in_err-from-clause-ok : goal.returns-in_err-from-clause-ok
+returns-in_err-from-clause-ok g c = not_ok _ _ c.from_residual.result c.from_residual.ensures.1
+
+pub returns-in_err-from-clause-kept : goal.returns-in_err-from-clause-kept
+returns-in_err-from-clause-kept g c = not_ok _ _ c.from_residual.result c.from_residual.ensures.1
+
+pub returns-in_err-from-clause-fresh : goal.returns-in_err-from-clause-fresh
+returns-in_err-from-clause-fresh g c = not_ok _ _ c.from_residual.result c.from_residual.ensures.1
+
+pub returns-in_err-from-clause-gone : goal.returns-in_err-from-clause-gone
+returns-in_err-from-clause-gone g c = not_ok _ _ c.from_residual.result c.from_residual.ensures.1
+
+pub returns-in_err-from-clause-lost : goal.returns-in_err-from-clause-lost
+returns-in_err-from-clause-lost g c = not_ok _ _ c.from_residual.result c.from_residual.ensures.1
+
+pub returns-in_err-from-clause-told : goal.returns-in_err-from-clause-told
+returns-in_err-from-clause-told g c = in_span c.from_residual.result Memory c.from_residual.ensures.1 (λ h. absurd cc)
+
+pub returns-in_err-to-clause-ok : goal.returns-in_err-to-clause-ok
+returns-in_err-to-clause-ok g c = not_ok _ _ c.from_residual-in_err-to.result c.from_residual-in_err-to.ensures.1
+
+pub returns-in_err-to-clause-kept : goal.returns-in_err-to-clause-kept
+returns-in_err-to-clause-kept g c = not_ok _ _ c.from_residual-in_err-to.result c.from_residual-in_err-to.ensures.1
+
+pub returns-in_err-to-clause-fresh : goal.returns-in_err-to-clause-fresh
+returns-in_err-to-clause-fresh g c = not_ok _ _ c.from_residual-in_err-to.result c.from_residual-in_err-to.ensures.1
+
+pub returns-in_err-to-clause-gone : goal.returns-in_err-to-clause-gone
+returns-in_err-to-clause-gone g c = not_ok _ _ c.from_residual-in_err-to.result c.from_residual-in_err-to.ensures.1
+
+pub returns-in_err-to-clause-lost : goal.returns-in_err-to-clause-lost
+returns-in_err-to-clause-lost g c = not_ok _ _ c.from_residual-in_err-to.result c.from_residual-in_err-to.ensures.1
+
+pub returns-in_err-to-clause-told : goal.returns-in_err-to-clause-told
+returns-in_err-to-clause-told g c = in_span c.from_residual-in_err-to.result Memory c.from_residual-in_err-to.ensures.1 (λ h. absurd cc)
+
+pub returns-in_err-rename-clause-ok : goal.returns-in_err-rename-clause-ok
+returns-in_err-rename-clause-ok g c = not_ok _ _ c.from_residual-in_err-rename.result c.from_residual-in_err-rename.ensures.1
+
+pub returns-in_err-rename-clause-kept : goal.returns-in_err-rename-clause-kept
+returns-in_err-rename-clause-kept g c = not_ok _ _ c.from_residual-in_err-rename.result c.from_residual-in_err-rename.ensures.1
+
+pub returns-in_err-rename-clause-fresh : goal.returns-in_err-rename-clause-fresh
+returns-in_err-rename-clause-fresh g c = not_ok _ _ c.from_residual-in_err-rename.result c.from_residual-in_err-rename.ensures.1
+
+pub returns-in_err-rename-clause-gone : goal.returns-in_err-rename-clause-gone
+returns-in_err-rename-clause-gone g c = not_ok _ _ c.from_residual-in_err-rename.result c.from_residual-in_err-rename.ensures.1
+
+pub returns-in_err-rename-clause-lost : goal.returns-in_err-rename-clause-lost
+returns-in_err-rename-clause-lost g c = not_ok _ _ c.from_residual-in_err-rename.result c.from_residual-in_err-rename.ensures.1
+
+pub returns-in_err-rename-clause-told : goal.returns-in_err-rename-clause-told
+returns-in_err-rename-clause-told g c = in_span c.from_residual-in_err-rename.result (io_error c.in_err-rename.field-0.0) c.from_residual-in_err-rename.ensures.1 (io_in_span c.in_err-rename.field-0.0)
+
+pub returns-in_err-push-clause-ok : goal.returns-in_err-push-clause-ok
+returns-in_err-push-clause-ok g c = not_ok _ _ c.from_residual-in_err-push.result c.from_residual-in_err-push.ensures.1
+
+pub returns-in_err-push-clause-kept : goal.returns-in_err-push-clause-kept
+returns-in_err-push-clause-kept g c = not_ok _ _ c.from_residual-in_err-push.result c.from_residual-in_err-push.ensures.1
+
+pub returns-in_err-push-clause-fresh : goal.returns-in_err-push-clause-fresh
+returns-in_err-push-clause-fresh g c = not_ok _ _ c.from_residual-in_err-push.result c.from_residual-in_err-push.ensures.1
+
+pub returns-in_err-push-clause-gone : goal.returns-in_err-push-clause-gone
+returns-in_err-push-clause-gone g c = not_ok _ _ c.from_residual-in_err-push.result c.from_residual-in_err-push.ensures.1
+
+pub returns-in_err-push-clause-lost : goal.returns-in_err-push-clause-lost
+returns-in_err-push-clause-lost g c = not_ok _ _ c.from_residual-in_err-push.result c.from_residual-in_err-push.ensures.1
+
+pub returns-in_err-push-clause-told : goal.returns-in_err-push-clause-told
+returns-in_err-push-clause-told g c = in_span c.from_residual-in_err-push.result Memory c.from_residual-in_err-push.ensures.1 (λ h. absurd cc)
+
+pub returns-in_err-from-clause-front : goal.returns-in_err-from-clause-front
+returns-in_err-from-clause-front g c = front_same c.args.self.now.reserved.items _ refl
+
+pub returns-in_err-from-clause-later : goal.returns-in_err-from-clause-later
+returns-in_err-from-clause-later g c = no_more_same (g.F.FileSystem.is_bounded c.args.files.now) (g.F.FileSystem.meter c.args.files.now)
+
+pub returns-in_err-from-clause-err : goal.returns-in_err-from-clause-err
+returns-in_err-from-clause-err g c = at_end _ _ c.from_residual.result c.from_residual.ensures.1 (inr refl)
+
+pub returns-in_err-from-clause-stays : goal.returns-in_err-from-clause-stays
+returns-in_err-from-clause-stays g c = at_end _ _ c.from_residual.result c.from_residual.ensures.1 (inl refl)
+
+pub returns-in_err-to-clause-front : goal.returns-in_err-to-clause-front
+returns-in_err-to-clause-front g c = front_same c.args.self.now.reserved.items _ refl
+
+pub returns-in_err-to-clause-later : goal.returns-in_err-to-clause-later
+returns-in_err-to-clause-later g c = no_more_same (g.F.FileSystem.is_bounded c.args.files.now) (g.F.FileSystem.meter c.args.files.now)
+
+pub returns-in_err-to-clause-err : goal.returns-in_err-to-clause-err
+returns-in_err-to-clause-err g c = at_end _ _ c.from_residual-in_err-to.result c.from_residual-in_err-to.ensures.1 (inr refl)
+
+pub returns-in_err-to-clause-stays : goal.returns-in_err-to-clause-stays
+returns-in_err-to-clause-stays g c = at_end _ _ c.from_residual-in_err-to.result c.from_residual-in_err-to.ensures.1 (inl refl)
+
+pub returns-in_err-from-clause-taken : goal.returns-in_err-from-clause-taken
+returns-in_err-from-clause-taken g c = λ free. exit_error ⊥ (HasLost c.args.self.now (g.F.FileSystem.disk c.args.files.now) (first_of c.args.self.now + 1)) ⊥ c.from_residual.result Memory c.from_residual.ensures.1 tt
+
+pub returns-in_err-from-clause-cause : goal.returns-in_err-from-clause-cause
+returns-in_err-from-clause-cause g c =
+    let rises : Type 0 = Rises 1 (g.F.FileSystem.meter c.args.files.now) (g.F.FileSystem.meter c.args.files.now) in
+    told_cause c.from_residual.result Memory (λ e. IsCaused rises ⊥ ⊥ (HasLost c.args.self.now (g.F.FileSystem.disk c.args.files.now) (first_of c.args.self.now + 1)) e) c.from_residual.ensures.1 tt
+
+pub returns-in_err-to-clause-taken : goal.returns-in_err-to-clause-taken
+returns-in_err-to-clause-taken g c = λ free. exit_error ⊥ (HasLost c.args.self.now (g.F.FileSystem.disk c.args.files.now) (first_of c.args.self.now + 1)) ⊥ c.from_residual-in_err-to.result Memory c.from_residual-in_err-to.ensures.1 tt
+
+pub returns-in_err-to-clause-cause : goal.returns-in_err-to-clause-cause
+returns-in_err-to-clause-cause g c =
+    let rises : Type 0 = Rises 1 (g.F.FileSystem.meter c.args.files.now) (g.F.FileSystem.meter c.args.files.now) in
+    told_cause c.from_residual-in_err-to.result Memory (λ e. IsCaused rises ⊥ ⊥ (HasLost c.args.self.now (g.F.FileSystem.disk c.args.files.now) (first_of c.args.self.now + 1)) e) c.from_residual-in_err-to.ensures.1 tt
+
+pub returns-in_err-push-clause-taken : goal.returns-in_err-push-clause-taken
+returns-in_err-push-clause-taken g c = λ free. exit_error ⊥ (HasLost c.args.self.now (g.F.FileSystem.disk c.args.files.now) (first_of c.args.self.now + 1)) ⊥ c.from_residual-in_err-push.result Memory c.from_residual-in_err-push.ensures.1 tt
+
+pub returns-in_err-push-clause-cause : goal.returns-in_err-push-clause-cause
+returns-in_err-push-clause-cause g c =
+    let rises : Type 0 = Rises 1 (g.F.FileSystem.meter c.args.files.now) (g.F.FileSystem.meter c.rename.new.self) in
+    told_cause c.from_residual-in_err-push.result Memory (λ e. IsCaused rises ⊥ ⊥ (HasLost c.args.self.now (g.F.FileSystem.disk c.args.files.now) (first_of c.args.self.now + 1)) e) c.from_residual-in_err-push.ensures.1 tt
+
+pub returns-in_err-rename-clause-later : goal.returns-in_err-rename-clause-later
+returns-in_err-rename-clause-later g c =
+    let absent : Type 0 = IsNoMove (g.F.FileSystem.disk c.args.files.now) c.as_str.result.now c.as_str-2.result.now in
+    let barred : Type 0 = IsIn c.as_str-2.result.now (g.F.FileSystem.disk c.args.files.now).directories in
+    no_more_call absent ⊥ barred (g.F.FileSystem.is_bounded c.args.files.now) (g.F.FileSystem.is_bounded c.rename.new.self) (g.F.FileSystem.meter c.args.files.now) (g.F.FileSystem.meter c.rename.new.self) (Err c.in_err-rename.field-0.0) c.in_err-rename.ensures.cause c.in_err-rename.ensures.call c.in_err-rename.ensures.bound
+
+pub returns-in_err-push-clause-later : goal.returns-in_err-push-clause-later
+returns-in_err-push-clause-later g c =
+    let absent : Type 0 = IsNoMove (g.F.FileSystem.disk c.args.files.now) c.as_str.result.now c.as_str-2.result.now in
+    let barred : Type 0 = IsIn c.as_str-2.result.now (g.F.FileSystem.disk c.args.files.now).directories in
+    no_more_call absent ⊥ barred (g.F.FileSystem.is_bounded c.args.files.now) (g.F.FileSystem.is_bounded c.rename.new.self) (g.F.FileSystem.meter c.args.files.now) (g.F.FileSystem.meter c.rename.new.self) (Ok c.in_ok-rename.field-0) c.in_ok-rename.ensures.cause c.in_ok-rename.ensures.call c.in_ok-rename.ensures.bound
+
+pub returns-clause-later : goal.returns-clause-later
+returns-clause-later g c =
+    let absent : Type 0 = IsNoMove (g.F.FileSystem.disk c.args.files.now) c.as_str.result.now c.as_str-2.result.now in
+    let barred : Type 0 = IsIn c.as_str-2.result.now (g.F.FileSystem.disk c.args.files.now).directories in
+    no_more_call absent ⊥ barred (g.F.FileSystem.is_bounded c.args.files.now) (g.F.FileSystem.is_bounded c.rename.new.self) (g.F.FileSystem.meter c.args.files.now) (g.F.FileSystem.meter c.rename.new.self) (Ok c.in_ok-rename.field-0) c.in_ok-rename.ensures.cause c.in_ok-rename.ensures.call c.in_ok-rename.ensures.bound

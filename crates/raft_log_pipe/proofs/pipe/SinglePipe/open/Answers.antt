@@ -9,6 +9,7 @@ use Rattle.raft_log_pipe.proofs.TakenLemmas.{exit_io, named_there, still_taken}
 use Rattle.raft_log_disk.specs.Cause.{Rises}
 use Rattle.raft_log_pipe.proofs.CausedLemmas.{exit_cause}
 use Rattle.raft_log_pipe.specs.Reserved.{AreReserved}
+use Rattle.raft_log_pipe.proofs.EndLemmas.{not_given, not_ok}
 use Rattle.raft_log_pipe.proofs.pipe.SinglePipe.open.Goals as goal
 
 pub returns-clause-pipe : goal.returns-clause-pipe
@@ -57,3 +58,30 @@ returns-in_err-writer-clause-cause g c =
     exit_cause (Unit {0}) rises ⊥ ⊥ ⊥ c.from_residual.result c.in_err-writer.field-0.0 c.from_residual.ensures.1
     (still_taken LogFileWriter (Unit {0}) (IsNoFile d c.in-Some.active.handle.0) rises ⊥ rises c.in_err-writer.field-0.0
     (λ none. none (named_there d.names so.named.0 c.in-Some.active.handle.0 so.named.1)) (λ x. x) c.in_err-writer.ensures.cause)
+
+pub returns-in_err-writer-clause-pipe : goal.returns-in_err-writer-clause-pipe
+returns-in_err-writer-clause-pipe g c = not_given _ _ c.from_residual.result c.from_residual.ensures.1
+
+pub returns-in_err-writer-clause-files : goal.returns-in_err-writer-clause-files
+returns-in_err-writer-clause-files g c = not_given _ _ c.from_residual.result c.from_residual.ensures.1
+
+pub returns-in_err-writer-clause-holds : goal.returns-in_err-writer-clause-holds
+returns-in_err-writer-clause-holds g c = not_given _ _ c.from_residual.result c.from_residual.ensures.1
+
+pub returns-in_err-writer-clause-paths : goal.returns-in_err-writer-clause-paths
+returns-in_err-writer-clause-paths g c = not_given _ _ c.from_residual.result c.from_residual.ensures.1
+
+pub returns-in_err-writer-clause-settings : goal.returns-in_err-writer-clause-settings
+returns-in_err-writer-clause-settings g c = not_given _ _ c.from_residual.result c.from_residual.ensures.1
+
+pub returns-in_err-writer-clause-bare : goal.returns-in_err-writer-clause-bare
+returns-in_err-writer-clause-bare g c = not_given _ _ c.from_residual.result c.from_residual.ensures.1
+
+pub returns-in_err-writer-clause-alone : goal.returns-in_err-writer-clause-alone
+returns-in_err-writer-clause-alone g c = not_given _ _ c.from_residual.result c.from_residual.ensures.1
+
+pub returns-in_err-writer-clause-changes : goal.returns-in_err-writer-clause-changes
+returns-in_err-writer-clause-changes g c = not_given _ _ c.from_residual.result c.from_residual.ensures.1
+
+pub returns-in_err-writer-clause-keeps : goal.returns-in_err-writer-clause-keeps
+returns-in_err-writer-clause-keeps g c = not_ok _ _ c.from_residual.result c.from_residual.ensures.1

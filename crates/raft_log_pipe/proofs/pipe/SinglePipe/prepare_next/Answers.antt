@@ -4,7 +4,7 @@ use Rattle.std.specs.declared.alloc.Global.{Global}
 use Rattle.raft_log_disk.specs.declared.fault.Fd.{Fd}
 use Rattle.raft_log_disk.specs.Cause.{Rises}
 use Rattle.raft_log_disk.specs.Disk.{HasDirectory, IsNoNewFile}
-use Rattle.raft_log_disk.proofs.RefusalLemmas.{no_more_call, still_free, taken_call}
+use Rattle.raft_log_disk.proofs.RefusalLemmas.{no_more_call, still_free, taken_call, no_more_same, no_more_then}
 use Rattle.raft_log_files.specs.FileName.{reserved_name}
 use Rattle.raft_log_pipe.specs.declared.file.ReservedFile.{ReservedFile}
 use Rattle.raft_log_pipe.specs.Alone.{directories_of_pipe}
@@ -16,6 +16,7 @@ use Rattle.raft_log_pipe.proofs.CausedLemmas.{call_cause}
 use Rattle.raft_log_pipe.proofs.PrefillLemmas.{created_there, held, lacks_one, perhaps_prepared, prepared}
 use Rattle.raft_log_pipe.proofs.TakenLemmas.{still_taken}
 use Rattle.raft_log_pipe.proofs.TrimLemmas.{front_same}
+use Rattle.raft_log_pipe.proofs.EndLemmas.{for_memory, not_given}
 use Rattle.raft_log_pipe.proofs.pipe.SinglePipe.prepare_next.Goals as goal
 
 pub fill_zeros-requires-clause-there : goal.fill_zeros-requires-clause-there
@@ -241,3 +242,68 @@ returns-clause-taken g c =
     λ none.
     still_taken (Unit {0}) Bool ⊥ ⊥ ⊥ (LacksNumbers d 1) c.in-Err-fill_zeros.fault (λ x. x) (λ x. absurd x)
     (c.in-Err-fill_zeros.ensures.taken (still_free none (no_more_call absent ⊥ barred _ _ _ _ _ c.in-Ok.ensures.cause c.in-Ok.ensures.call c.in-Ok.ensures.bound)))
+
+-- ---- what an early end leaves, and why it came
+
+pub returns-in_err-is_free-clause-more : goal.returns-in_err-is_free-clause-more
+returns-in_err-is_free-clause-more g c = not_given _ _ c.from_residual.result c.from_residual.ensures.1
+
+pub returns-in_err-is_free-clause-obstructed : goal.returns-in_err-is_free-clause-obstructed
+returns-in_err-is_free-clause-obstructed g c = not_given _ _ c.from_residual.result c.from_residual.ensures.1
+
+pub returns-in_err-path-clause-more : goal.returns-in_err-path-clause-more
+returns-in_err-path-clause-more g c = not_given _ _ c.from_residual-in_err-path.result c.from_residual-in_err-path.ensures.1
+
+pub returns-in_err-path-clause-obstructed : goal.returns-in_err-path-clause-obstructed
+returns-in_err-path-clause-obstructed g c = not_given _ _ c.from_residual-in_err-path.result c.from_residual-in_err-path.ensures.1
+
+pub returns-in_err-push-clause-more : goal.returns-in_err-push-clause-more
+returns-in_err-push-clause-more g c = not_given _ _ c.from_residual-in_err-push.result c.from_residual-in_err-push.ensures.1
+
+pub returns-in_err-push-clause-obstructed : goal.returns-in_err-push-clause-obstructed
+returns-in_err-push-clause-obstructed g c = not_given _ _ c.from_residual-in_err-push.result c.from_residual-in_err-push.ensures.1
+
+pub returns-in_err-is_free-clause-later : goal.returns-in_err-is_free-clause-later
+returns-in_err-is_free-clause-later g c = no_more_same (g.F.FileSystem.is_bounded c.args.files.now) (g.F.FileSystem.meter c.args.files.now)
+
+pub returns-in_err-is_free-clause-front : goal.returns-in_err-is_free-clause-front
+returns-in_err-is_free-clause-front g c = front_same c.args.self.now.reserved.items _ refl
+
+pub returns-in_err-path-clause-later : goal.returns-in_err-path-clause-later
+returns-in_err-path-clause-later g c = no_more_same (g.F.FileSystem.is_bounded c.args.files.now) (g.F.FileSystem.meter c.args.files.now)
+
+pub returns-in_err-path-clause-front : goal.returns-in_err-path-clause-front
+returns-in_err-path-clause-front g c = front_same c.args.self.now.reserved.items _ refl
+
+pub returns-then-not-branch-clause-later : goal.returns-then-not-branch-clause-later
+returns-then-not-branch-clause-later g c = no_more_same (g.F.FileSystem.is_bounded c.args.files.now) (g.F.FileSystem.meter c.args.files.now)
+
+pub returns-then-not-branch-clause-front : goal.returns-then-not-branch-clause-front
+returns-then-not-branch-clause-front g c = front_same c.args.self.now.reserved.items _ refl
+
+pub returns-in-Err-clause-front : goal.returns-in-Err-clause-front
+returns-in-Err-clause-front g c = front_same c.args.self.now.reserved.items _ refl
+
+pub returns-in_err-path-clause-taken : goal.returns-in_err-path-clause-taken
+returns-in_err-path-clause-taken g c = λ none. for_memory ⊥ (LacksNumbers (g.F.FileSystem.disk c.args.files.now) 1) c.from_residual-in_err-path.result c.from_residual-in_err-path.ensures.1
+
+pub returns-in_err-path-clause-cause : goal.returns-in_err-path-clause-cause
+returns-in_err-path-clause-cause g c = for_memory ⊥ (Rises 1 (g.F.FileSystem.meter c.args.files.now) (g.F.FileSystem.meter c.args.files.now)) c.from_residual-in_err-path.result c.from_residual-in_err-path.ensures.1
+
+pub returns-in_err-push-clause-taken : goal.returns-in_err-push-clause-taken
+returns-in_err-push-clause-taken g c = λ none. for_memory ⊥ (LacksNumbers (g.F.FileSystem.disk c.args.files.now) 1) c.from_residual-in_err-push.result c.from_residual-in_err-push.ensures.1
+
+pub returns-in_err-push-clause-cause : goal.returns-in_err-push-clause-cause
+returns-in_err-push-clause-cause g c = for_memory ⊥ (Rises 1 (g.F.FileSystem.meter c.args.files.now) (g.F.FileSystem.meter c.create.new.self)) c.from_residual-in_err-push.result c.from_residual-in_err-push.ensures.1
+
+pub returns-in-Err-clause-later : goal.returns-in-Err-clause-later
+returns-in-Err-clause-later g c = no_more_call (HasDirectory (g.F.FileSystem.disk c.args.files.now).directories c.as_str-2.result.now → ⊥) ⊥ (IsNoNewFile (g.F.FileSystem.disk c.args.files.now) c.as_str-2.result.now) _ _ _ _ _ c.in-Err.ensures.cause c.in-Err.ensures.call c.in-Err.ensures.bound
+
+pub returns-in_err-push-clause-later : goal.returns-in_err-push-clause-later
+returns-in_err-push-clause-later g c = no_more_call (HasDirectory (g.F.FileSystem.disk c.args.files.now).directories c.as_str-2.result.now → ⊥) ⊥ (IsNoNewFile (g.F.FileSystem.disk c.args.files.now) c.as_str-2.result.now) _ _ _ _ _ c.in-Ok.ensures.cause c.in-Ok.ensures.call c.in-Ok.ensures.bound
+
+pub returns-in-Ok-fill_zeros-clause-later : goal.returns-in-Ok-fill_zeros-clause-later
+returns-in-Ok-fill_zeros-clause-later g c = no_more_then (no_more_call (HasDirectory (g.F.FileSystem.disk c.args.files.now).directories c.as_str-2.result.now → ⊥) ⊥ (IsNoNewFile (g.F.FileSystem.disk c.args.files.now) c.as_str-2.result.now) _ _ _ _ _ c.in-Ok.ensures.cause c.in-Ok.ensures.call c.in-Ok.ensures.bound) c.in-Ok-fill_zeros.ensures.later
+
+pub returns-clause-later : goal.returns-clause-later
+returns-clause-later g c = no_more_then (no_more_call (HasDirectory (g.F.FileSystem.disk c.args.files.now).directories c.as_str-2.result.now → ⊥) ⊥ (IsNoNewFile (g.F.FileSystem.disk c.args.files.now) c.as_str-2.result.now) _ _ _ _ _ c.in-Ok.ensures.cause c.in-Ok.ensures.call c.in-Ok.ensures.bound) c.in-Err-fill_zeros.ensures.later

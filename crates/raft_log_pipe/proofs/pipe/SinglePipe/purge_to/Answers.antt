@@ -15,6 +15,7 @@ use Rattle.raft_log_pipe.proofs.CausedLemmas.{caused_for, purge_found, rises_the
 use Rattle.raft_log_disk.proofs.CauseLemmas.{at_err}
 use Rattle.raft_log_pipe.specs.Purging.{StandsFrom}
 use Rattle.raft_log_pipe.proofs.RestLemmas.{rest_alone, stands_from, stands_whole}
+use Rattle.raft_log_pipe.proofs.EndLemmas.{not_given, not_ok}
 use Rattle.raft_log_pipe.proofs.pipe.SinglePipe.purge_to.Goals as goal
 
 pub returns-in_default-clause-holds : goal.returns-in_default-clause-holds
@@ -175,3 +176,18 @@ returns-in_err-purge_first-clause-stands g c =
 pub returns-in_err-purge_first-clause-front : goal.returns-in_err-purge_first-clause-front
 returns-in_err-purge_first-clause-front g c =
     first_on c.args.self.now.reserved.items c.loop-gone.self.reserved.items c.purge_first.new.self.reserved.items c.loop-gone.invariant.front c.in_err-purge_first.ensures.front
+
+pub returns-in_err-purge_first-clause-kept : goal.returns-in_err-purge_first-clause-kept
+returns-in_err-purge_first-clause-kept g c = not_ok _ _ c.from_residual.result c.from_residual.ensures.1
+
+pub returns-in_err-purge_first-clause-fresh : goal.returns-in_err-purge_first-clause-fresh
+returns-in_err-purge_first-clause-fresh g c = not_ok _ _ c.from_residual.result c.from_residual.ensures.1
+
+pub returns-in_err-purge_first-clause-alone : goal.returns-in_err-purge_first-clause-alone
+returns-in_err-purge_first-clause-alone g c = not_ok _ _ c.from_residual.result c.from_residual.ensures.1
+
+pub returns-in_err-purge_first-clause-ok : goal.returns-in_err-purge_first-clause-ok
+returns-in_err-purge_first-clause-ok g c = not_given _ _ c.from_residual.result c.from_residual.ensures.1
+
+pub returns-in_err-purge_first-clause-gone : goal.returns-in_err-purge_first-clause-gone
+returns-in_err-purge_first-clause-gone g c = not_ok _ _ c.from_residual.result c.from_residual.ensures.1

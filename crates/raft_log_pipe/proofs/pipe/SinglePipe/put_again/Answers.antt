@@ -22,6 +22,7 @@ use Rattle.raft_log_pipe.specs.Torn.{TearsAtEnd}
 use Rattle.raft_log_pipe.proofs.TornLemmas.{held_torn, torn_next, torn_then}
 use Rattle.raft_log_pipe.proofs.PurgeLemmas.{last_on}
 use Rattle.raft_log_pipe.proofs.ReuseLemmas.{left_same}
+use Rattle.raft_log_pipe.proofs.EndLemmas.{not_given, not_ok}
 use Rattle.raft_log_pipe.proofs.pipe.SinglePipe.put_again.Goals as goal
 
 pub returns-in_err-finish-clause-err : goal.returns-in_err-finish-clause-err
@@ -260,3 +261,24 @@ returns-in-Err-NoSpace-clause-reserved g c =
     let two = last_on c.args.self.now.reserved.items c.finish.new.self.reserved.items c.go_on.new.self.reserved.items one c.in-Ok.ensures.reserved in
     let three = last_on c.args.self.now.reserved.items c.go_on.new.self.reserved.items c.put.new.self.reserved.items two (left_same c.go_on.new.self.reserved c.put.new.self.reserved c.in-Err-NoSpace.ensures.reserved) in
     last_on c.args.self.now.reserved.items c.put.new.self.reserved.items c.give_up.new.self.reserved.items three c.give_up.ensures.reserved
+
+pub returns-in_err-finish-clause-pipe : goal.returns-in_err-finish-clause-pipe
+returns-in_err-finish-clause-pipe g c = not_ok _ _ c.from_residual.result c.from_residual.ensures.1
+
+pub returns-in_err-finish-clause-alone : goal.returns-in_err-finish-clause-alone
+returns-in_err-finish-clause-alone g c = not_ok _ _ c.from_residual.result c.from_residual.ensures.1
+
+pub returns-in_err-finish-clause-files : goal.returns-in_err-finish-clause-files
+returns-in_err-finish-clause-files g c = not_ok _ _ c.from_residual.result c.from_residual.ensures.1
+
+pub returns-in_err-finish-clause-first : goal.returns-in_err-finish-clause-first
+returns-in_err-finish-clause-first g c = not_ok _ _ c.from_residual.result c.from_residual.ensures.1
+
+pub returns-in_err-finish-clause-ok : goal.returns-in_err-finish-clause-ok
+returns-in_err-finish-clause-ok g c = not_given _ _ c.from_residual.result c.from_residual.ensures.1
+
+pub returns-in_err-finish-clause-stands : goal.returns-in_err-finish-clause-stands
+returns-in_err-finish-clause-stands g c = not_given _ _ c.from_residual.result c.from_residual.ensures.1
+
+pub returns-in_err-finish-clause-fits : goal.returns-in_err-finish-clause-fits
+returns-in_err-finish-clause-fits g c = not_given _ _ c.from_residual.result c.from_residual.ensures.1

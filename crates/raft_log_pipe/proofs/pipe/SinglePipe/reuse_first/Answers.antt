@@ -1,9 +1,9 @@
-use Rattle.std.proofs.Common.{◌≡◌, ℕ, List, ◌∷◌, ◌++◌, inl, refl, sym, ap, subst, ◌∙◌, drop, false, None}
-use Rattle.std.specs.Prelude.{Ok, Err}
+use Rattle.std.proofs.Common.{◌≡◌, ℕ, List, ◌∷◌, ◌++◌, inl, refl, sym, ap, subst, ◌∙◌, drop, false, None, Result, IsErrAnd}
+use Rattle.std.specs.Prelude.{Ok, Err, IsErrOf}
 use Rattle.raft_log_disk.specs.declared.fault.Fd.{Fd}
 use Rattle.raft_log_disk.specs.Cause.{Rises}
 use Rattle.raft_log_disk.specs.Disk.{Disk, IsIn, IsNoFile, IsNoMove, fd_of}
-use Rattle.raft_log_disk.proofs.RefusalLemmas.{no_more_call, no_more_then, still_free, taken_call}
+use Rattle.raft_log_disk.proofs.RefusalLemmas.{no_more_call, no_more_then, still_free, taken_call, no_more_same}
 use Rattle.raft_log_files.specs.FileName.{log_file_name, reserved_name}
 use Rattle.raft_log_file.specs.declared.writer.LogFileWriter.{LogFileWriter}
 use Rattle.raft_log_pipe.specs.declared.file.File.{File}
@@ -20,6 +20,10 @@ use Rattle.raft_log_pipe.proofs.CausedLemmas.{call_cause, rises_then}
 use Rattle.raft_log_pipe.proofs.NextLemmas.{begun_changes}
 use Rattle.raft_log_pipe.proofs.ReuseLemmas.{barred_by, can_move, first_reserved, first_within, header_logs, header_others, is_there, next_free, next_is, opened_is, perhaps_goes, perhaps_others, reserved_there, reused_goes, reused_left, reused_others, reused_takes, split_first}
 use Rattle.raft_log_pipe.proofs.TakenLemmas.{exit_fault, still_taken}
+use Rattle.std.proofs.lemmas.Result.{err_from_is_err_and}
+use Rattle.raft_log_disk.specs.declared.fault.IoFault.{IoFault}
+use Rattle.raft_log_disk.specs.declared.fault.IoFault.TheVariants.{Memory, NoSpace}
+use Rattle.raft_log_pipe.proofs.EndLemmas.{for_memory, not_given, not_ok}
 use Rattle.raft_log_pipe.proofs.pipe.SinglePipe.reuse_first.Goals as goal
 
 pub returns-in-Err-clause-taken : goal.returns-in-Err-clause-taken
@@ -379,3 +383,56 @@ returns-clause-cause g c =
     let z = g.F.FileSystem.meter c.reuse.new.self in
     still_taken (Unit {0}) (File × LogFileWriter) absent (Rises 1 b z) (LacksPlace p d 1) (Rises 1 a z) c.in-Err-reuse.fault (λ none. absurd (can_move p d e r c.as_str-2.result.now c.as_str-3.result.now named all.0 change c.requires.number from to none)) (rises_then 0 1 a b z (no_more_then later c.in_ok-writer.ensures.later).counts)
     (call_cause (Unit {0}) (Unit {0}) absent ⊥ b z c.in-Err-reuse.fault c.in-Err-reuse.ensures.cause)
+
+-- ---- what an early end leaves, and why it came
+
+memory_only : {T : Type 0} (P : Type 0) (r : Result T IoFault) → IsErrAnd r (λ x. x ≡ Memory) → IsErrOf r NoSpace → P
+memory_only P r is h = let p = err_from_is_err_and r is in absurd cc
+
+pub returns-in_err-from-clause-left : goal.returns-in_err-from-clause-left
+returns-in_err-from-clause-left g c = not_ok _ _ c.from_residual.result c.from_residual.ensures.1
+
+pub returns-in_err-from-clause-takes : goal.returns-in_err-from-clause-takes
+returns-in_err-from-clause-takes g c = not_given _ _ c.from_residual.result c.from_residual.ensures.1
+
+pub returns-in_err-to-clause-left : goal.returns-in_err-to-clause-left
+returns-in_err-to-clause-left g c = not_ok _ _ c.from_residual-in_err-to.result c.from_residual-in_err-to.ensures.1
+
+pub returns-in_err-to-clause-takes : goal.returns-in_err-to-clause-takes
+returns-in_err-to-clause-takes g c = not_given _ _ c.from_residual-in_err-to.result c.from_residual-in_err-to.ensures.1
+
+pub returns-in_err-writer-clause-left : goal.returns-in_err-writer-clause-left
+returns-in_err-writer-clause-left g c = not_ok _ _ c.from_residual-in_err-writer.result c.from_residual-in_err-writer.ensures.1
+
+pub returns-in_err-writer-clause-takes : goal.returns-in_err-writer-clause-takes
+returns-in_err-writer-clause-takes g c = not_given _ _ c.from_residual-in_err-writer.result c.from_residual-in_err-writer.ensures.1
+
+pub returns-in_err-from-clause-later : goal.returns-in_err-from-clause-later
+returns-in_err-from-clause-later g c = no_more_same (g.F.FileSystem.is_bounded c.args.files.now) (g.F.FileSystem.meter c.args.files.now)
+
+pub returns-in_err-from-clause-lacks : goal.returns-in_err-from-clause-lacks
+returns-in_err-from-clause-lacks g c = memory_only _ c.from_residual.result c.from_residual.ensures.1
+
+pub returns-in_err-from-clause-taken : goal.returns-in_err-from-clause-taken
+returns-in_err-from-clause-taken g c = λ unset. for_memory (IsUnmade c.args.self.now (g.F.FileSystem.disk c.args.files.now)) (IsBarred c.args.self.now (g.F.FileSystem.disk c.args.files.now)) c.from_residual.result c.from_residual.ensures.1
+
+pub returns-in_err-to-clause-later : goal.returns-in_err-to-clause-later
+returns-in_err-to-clause-later g c = no_more_same (g.F.FileSystem.is_bounded c.args.files.now) (g.F.FileSystem.meter c.args.files.now)
+
+pub returns-in_err-to-clause-lacks : goal.returns-in_err-to-clause-lacks
+returns-in_err-to-clause-lacks g c = memory_only _ c.from_residual-in_err-to.result c.from_residual-in_err-to.ensures.1
+
+pub returns-in_err-to-clause-taken : goal.returns-in_err-to-clause-taken
+returns-in_err-to-clause-taken g c = λ unset. for_memory (IsUnmade c.args.self.now (g.F.FileSystem.disk c.args.files.now)) (IsBarred c.args.self.now (g.F.FileSystem.disk c.args.files.now)) c.from_residual-in_err-to.result c.from_residual-in_err-to.ensures.1
+
+pub returns-in-Err-clause-later : goal.returns-in-Err-clause-later
+returns-in-Err-clause-later g c = no_more_call (fd_of (g.F.FileSystem.disk c.args.files.now).names c.as_str.result.now ≡ None) ⊥ ⊥ _ _ _ _ _ c.in-Err.ensures.cause c.in-Err.ensures.call c.in-Err.ensures.bound
+
+pub returns-in_err-writer-clause-later : goal.returns-in_err-writer-clause-later
+returns-in_err-writer-clause-later g c = no_more_then (no_more_call (fd_of (g.F.FileSystem.disk c.args.files.now).names c.as_str.result.now ≡ None) ⊥ ⊥ _ _ _ _ _ c.in-Ok.ensures.cause c.in-Ok.ensures.call c.in-Ok.ensures.bound) c.in_err-writer.ensures.later
+
+pub returns-in-Ok-reuse-clause-later : goal.returns-in-Ok-reuse-clause-later
+returns-in-Ok-reuse-clause-later g c = no_more_then (no_more_call (fd_of (g.F.FileSystem.disk c.args.files.now).names c.as_str.result.now ≡ None) ⊥ ⊥ _ _ _ _ _ c.in-Ok.ensures.cause c.in-Ok.ensures.call c.in-Ok.ensures.bound) (no_more_then c.in_ok-writer.ensures.later (no_more_call (IsNoMove (g.F.FileSystem.disk c.begin_file.new.files) c.as_str-2.result.now c.as_str-3.result.now) ⊥ (IsIn c.as_str-3.result.now (g.F.FileSystem.disk c.begin_file.new.files).directories) _ _ _ _ _ c.in-Ok-reuse.ensures.cause c.in-Ok-reuse.ensures.call c.in-Ok-reuse.ensures.bound))
+
+pub returns-clause-later : goal.returns-clause-later
+returns-clause-later g c = no_more_then (no_more_call (fd_of (g.F.FileSystem.disk c.args.files.now).names c.as_str.result.now ≡ None) ⊥ ⊥ _ _ _ _ _ c.in-Ok.ensures.cause c.in-Ok.ensures.call c.in-Ok.ensures.bound) (no_more_then c.in_ok-writer.ensures.later (no_more_call (IsNoMove (g.F.FileSystem.disk c.begin_file.new.files) c.as_str-2.result.now c.as_str-3.result.now) ⊥ (IsIn c.as_str-3.result.now (g.F.FileSystem.disk c.begin_file.new.files).directories) _ _ _ _ _ c.in-Err-reuse.ensures.cause c.in-Err-reuse.ensures.call c.in-Err-reuse.ensures.bound))

@@ -16,6 +16,7 @@ use Rattle.std.proofs.Common.{inl}
 use Rattle.raft_log_pipe.specs.Torn.{TearsAtEnd}
 use Rattle.raft_log_pipe.proofs.TornLemmas.{held_torn, torn_next, torn_then}
 use Rattle.raft_log_pipe.proofs.ReuseLemmas.{left_same, takes_before}
+use Rattle.raft_log_pipe.proofs.EndLemmas.{not_ok}
 use Rattle.raft_log_pipe.proofs.pipe.SinglePipe.rotate.Goals as goal
 
 pub returns-in_err-go_on-clause-err : goal.returns-in_err-go_on-clause-err
@@ -98,3 +99,39 @@ pub returns-clause-takes : goal.returns-clause-takes
 returns-clause-takes g c =
     takes_before c.args.self.now c.finish.new.self (g.F.FileSystem.disk c.args.files.now) (g.F.FileSystem.disk c.finish.new.files) (g.F.FileSystem.disk c.go_on.new.files) c.go_on.new.self.reserved.items c.go_on.new.self.active
     c.in_ok-finish.ensures.same.0 c.in_ok-finish.ensures.same.2 c.in_ok-finish.ensures.paths c.in_ok-finish.ensures.reserved c.in_ok-finish.ensures.next c.in_ok-finish.ensures.names c.in_ok-go_on.ensures.takes
+
+pub returns-in_err-finish-clause-pipe : goal.returns-in_err-finish-clause-pipe
+returns-in_err-finish-clause-pipe g c = not_ok _ _ c.from_residual.result c.from_residual.ensures.1
+
+pub returns-in_err-finish-clause-next : goal.returns-in_err-finish-clause-next
+returns-in_err-finish-clause-next g c = not_ok _ _ c.from_residual.result c.from_residual.ensures.1
+
+pub returns-in_err-finish-clause-takes : goal.returns-in_err-finish-clause-takes
+returns-in_err-finish-clause-takes g c = not_ok _ _ c.from_residual.result c.from_residual.ensures.1
+
+pub returns-in_err-finish-clause-alone : goal.returns-in_err-finish-clause-alone
+returns-in_err-finish-clause-alone g c = not_ok _ _ c.from_residual.result c.from_residual.ensures.1
+
+pub returns-in_err-finish-clause-ok : goal.returns-in_err-finish-clause-ok
+returns-in_err-finish-clause-ok g c = not_ok _ _ c.from_residual.result c.from_residual.ensures.1
+
+pub returns-in_err-finish-clause-begun : goal.returns-in_err-finish-clause-begun
+returns-in_err-finish-clause-begun g c = not_ok _ _ c.from_residual.result c.from_residual.ensures.1
+
+pub returns-in_err-go_on-clause-pipe : goal.returns-in_err-go_on-clause-pipe
+returns-in_err-go_on-clause-pipe g c = not_ok _ _ c.from_residual-in_err-go_on.result c.from_residual-in_err-go_on.ensures.1
+
+pub returns-in_err-go_on-clause-next : goal.returns-in_err-go_on-clause-next
+returns-in_err-go_on-clause-next g c = not_ok _ _ c.from_residual-in_err-go_on.result c.from_residual-in_err-go_on.ensures.1
+
+pub returns-in_err-go_on-clause-takes : goal.returns-in_err-go_on-clause-takes
+returns-in_err-go_on-clause-takes g c = not_ok _ _ c.from_residual-in_err-go_on.result c.from_residual-in_err-go_on.ensures.1
+
+pub returns-in_err-go_on-clause-alone : goal.returns-in_err-go_on-clause-alone
+returns-in_err-go_on-clause-alone g c = not_ok _ _ c.from_residual-in_err-go_on.result c.from_residual-in_err-go_on.ensures.1
+
+pub returns-in_err-go_on-clause-ok : goal.returns-in_err-go_on-clause-ok
+returns-in_err-go_on-clause-ok g c = not_ok _ _ c.from_residual-in_err-go_on.result c.from_residual-in_err-go_on.ensures.1
+
+pub returns-in_err-go_on-clause-begun : goal.returns-in_err-go_on-clause-begun
+returns-in_err-go_on-clause-begun g c = not_ok _ _ c.from_residual-in_err-go_on.result c.from_residual-in_err-go_on.ensures.1

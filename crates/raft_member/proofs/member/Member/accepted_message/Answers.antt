@@ -5,7 +5,7 @@ use Rattle.raft_engine.specs.Clock.{KeepsHeard}
 use Rattle.raft_engine.specs.Events.{HasTaken, MayTake, received}
 use Rattle.raft_messages.specs.Messages.{body_as}
 use Rattle.raft_member.specs.Running.{Brings}
-use Rattle.raft_state.proofs.GrowthLemmas.{on_err}
+use Rattle.raft_log_ids.proofs.GrowthLemmas.{on_err}
 use Rattle.raft_member.proofs.EventLemmas.{halted_at_once, run_of_message, run_of_message_with}
 use Rattle.raft_executor.specs.SendingTimes.{sent_at}
 use Rattle.raft_member.specs.Hearing.{HearsBy, HearsIn}

@@ -5,7 +5,7 @@ use Rattle.raft_group_step.specs.StoredGroup.{after_storing_all}
 use Rattle.raft_engine.specs.Commands.{stored_by}
 use Rattle.raft_executor.specs.Said.{SaysAll}
 use Rattle.raft_executor.specs.Stored.{first_of}
-use Rattle.raft_state.proofs.GrowthLemmas.{on_err}
+use Rattle.raft_log_ids.proofs.GrowthLemmas.{on_err}
 use Rattle.raft_member.proofs.RunLemmas.{halted_at_end, halted_within, no_stop, sent_at_end, some_stop, stopped_there, up_at_end, vote_at_end}
 use Rattle.raft_member.proofs.member.Member.end_taken.Goals as goal
 

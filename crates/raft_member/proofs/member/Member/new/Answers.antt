@@ -2,7 +2,7 @@
 use Rattle.std.proofs.Common.{true, refl}
 use Rattle.raft_group_step.specs.GroupState.{no_group, state_of}
 use Rattle.raft_group_step.specs.GroupEvent.{Open}
-use Rattle.raft_state.proofs.GrowthLemmas.{on_err}
+use Rattle.raft_log_ids.proofs.GrowthLemmas.{on_err}
 use Rattle.raft_member.proofs.RunLemmas.{shown_first}
 use Rattle.raft_member.proofs.member.Member.new.Goals as goal
 
@@ -12,15 +12,15 @@ returns-in_err-engine-clause-err g c = λ kept well shown.
     (shown_first (g.S.GroupStorage.is_well c.args.storage.now) (g.S.GroupStorage.shows c.args.storage.now c.args.group)
     (g.met.S.GroupStorage.shows_more c.args.storage.now c.args.group) kept kept _ refl shown)
 
-pub returns-clause-ok : goal.returns-clause-ok
-returns-clause-ok g c = λ well shown. (
+pub returns-in-Ok-clause-ok : goal.returns-in-Ok-clause-ok
+returns-in-Ok-clause-ok g c = λ well shown. (
   refl,
   record {
-    engine = c.at_rest.result;
+    engine = c.come_to_rest.new.engine;
     has_engine = refl;
-    idle = c.at_rest.ensures c.args.id (state_of (record no_group { present = true })) (c.in_ok-engine.ensures Open refl).stands;
-    well = c.in_ok-make_group.ensures.well well;
-    stored = c.in_ok-make_group.ensures.ok well no_group shown;
+    idle = c.come_to_rest.ensures.idle c.args.id (state_of (record no_group { present = true })) (c.in_ok-engine.ensures Open refl).stands;
+    well = c.in-Ok.ensures.well well;
+    stored = c.in-Ok.ensures.ok well no_group shown;
     present = refl;
     moment = refl;
   },

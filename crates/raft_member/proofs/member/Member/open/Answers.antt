@@ -8,7 +8,7 @@ use Rattle.raft_group_step.specs.GroupState.{state_of}
 use Rattle.raft_group_step.specs.GroupEvent.{Open}
 use Rattle.raft_group_storage.specs.Loaded.{IsLoaded}
 use Rattle.raft_group_storage.specs.declared.loaded_group.LoadedGroup.{LoadedGroup}
-use Rattle.raft_state.proofs.GrowthLemmas.{on_err}
+use Rattle.raft_log_ids.proofs.GrowthLemmas.{on_err}
 use Rattle.raft_laws.specs.Opened.{opened}
 use Rattle.raft_member.specs.Member.{HasEnded}
 use Rattle.raft_member.specs.Opening.{stale_end}

@@ -1,22 +1,25 @@
 -- The engine runs the rest of the opening.
-use Rattle.std.proofs.Common.{sym, subst}
-use Rattle.raft_state.proofs.GrowthLemmas.{on_err}
+use Rattle.std.proofs.Common.{ap, ◌∙◌, subst}
 use Rattle.raft_laws.specs.Opened.{opened}
 use Rattle.raft_member.specs.Opening.{HasStarted}
-use Rattle.raft_member.specs.Running.{HasRun}
+use Rattle.raft_member.specs.Running.{HasHalted}
+use Rattle.raft_member.specs.declared.member.Member.{Member}
 use Rattle.raft_member.proofs.OpeningLemmas.{rest, rest_begins, rest_stored}
 use Rattle.raft_member.proofs.RunLemmas.{one_snapshot, run_without_snapshot}
+use Rattle.raft_member.proofs.TellingLemmas.{told_fault, told_id, told_run}
 use Rattle.raft_member.proofs.member.Member.start.Goals as goal
 
-pub returns-in_err-ended-clause-err : goal.returns-in_err-ended-clause-err
-returns-in_err-ended-clause-err g c = λ st loaded down openable.
+pub returns-clause-err : goal.returns-clause-err
+returns-clause-err g c = λ st loaded down openable.
     let own = c.args.self.now.id in
     let old = (opened st).state in
     let run =
     run_without_snapshot g.S.GroupStorage.stands own c.in-Some.engine old.stored (rest st own) 0
     (λ x. subst (HasStarted x own old) c.in-Some.is (c.in_ok-engine.ensures x st loaded openable))
     (rest_stored st own) (rest_begins st own) in
-    on_err _ (c.in_err-ended.ensures.err old.stored (rest st own) down run)
+    let told = c.end_without_snapshot-told in
+    told_fault told.new.engine told.new.self c.put_back.new.self (λ m met. HasHalted (g.S.GroupStorage.shows told.new.storage c.args.group) old.stored (rest st own) m)
+    told.result c.put_back.ensures (told.ensures.err old.stored (rest st own) down run)
 
 pub returns-clause-ok : goal.returns-clause-ok
 returns-clause-ok g c = λ st loaded down openable.
@@ -26,10 +29,14 @@ returns-clause-ok g c = λ st loaded down openable.
     run_without_snapshot g.S.GroupStorage.stands own c.in-Some.engine old.stored (rest st own) 0
     (λ x. subst (HasStarted x own old) c.in-Some.is (c.in_ok-engine.ensures x st loaded openable))
     (rest_stored st own) (rest_begins st own) in
-    let is_well = g.S.GroupStorage.is_well c.end_without_snapshot.new.storage in
-    let shown = g.S.GroupStorage.shows c.end_without_snapshot.new.storage c.args.group in
-    subst (λ m. HasRun g.S.GroupStorage.stands is_well shown old.stored (rest st own) c.args.stop m c.in_ok-ended.ended) (sym c.put_back.ensures)
-    (c.in_ok-ended.ensures.ok old.stored (rest st own) down run)
+    let told = c.end_without_snapshot-told in
+    told_run told.new.engine told.new.self c.put_back.new.self g.S.GroupStorage.stands (g.S.GroupStorage.is_well told.new.storage) (g.S.GroupStorage.shows told.new.storage c.args.group)
+    old.stored (rest st own) c.args.stop told.result c.put_back.ensures (told.ensures.ok old.stored (rest st own) down run)
+
+pub returns-clause-id : goal.returns-clause-id
+returns-clause-id g c =
+    let told = c.end_without_snapshot-told in
+    ap (λ (m : Member). m.id) c.put_back.ensures ∙ told_id told.new.engine told.new.self c.put_back.new.self told.result ∙ told.ensures.id
 
 -- there is an engine, whatever snapshot a command would store
 pub returns-in_default-clause-ok : goal.returns-in_default-clause-ok

@@ -3,7 +3,7 @@ use Rattle.std.proofs.Common.{rules, ◌≡◌, ℕ, Option, Some, refl, sym, ap
 use Rattle.std.specs.Prelude.{option_map}
 use Rattle.std.specs.Ordering.{nat_cmp}
 use Rattle.std.specs.BTreeMap.{get}
-use Rattle.raft_state.proofs.GrowthLemmas.{on_err}
+use Rattle.raft_log_ids.proofs.GrowthLemmas.{on_err}
 use Rattle.raft_group_step.specs.GroupEvent.{Open}
 use Rattle.raft_group_step.specs.GroupState.{state_of}
 use Rattle.raft_group_step.specs.GroupStep.{group_step}

@@ -2,8 +2,8 @@ use Rattle.std.proofs.Common.{◌≡◌, Bool, true, false, not, List, [], ◌�
 use Rattle.raft_state.specs.State.{first_vote}
 use Rattle.std.specs.Prelude.{◌↔◌, IsTrue, None}
 use Rattle.raft_values.specs.declared.log_id.LogId.{LogId}
-use Rattle.raft_state.specs.LogIdList.{last_id}
-use Rattle.raft_state.proofs.LogIdListLemmas.{last_id-cons}
+use Rattle.raft_log_ids.specs.LogIdList.{last_id}
+use Rattle.raft_log_ids.proofs.LogIdListLemmas.{last_id-cons}
 use Rattle.raft_state.proofs.raft_state.RaftState.is_initialized.Goals as goal
 
 -- what has no last one has none

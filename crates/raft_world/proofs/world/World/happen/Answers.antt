@@ -1,6 +1,6 @@
 use Rattle.std.specs.Prelude.{◌∷◌, ◌++◌, []}
 use Rattle.std.proofs.Common.{ap, ◌∙◌}
-use Rattle.raft_state.proofs.GrowthLemmas.{on_err}
+use Rattle.raft_log_ids.proofs.GrowthLemmas.{on_err}
 use Rattle.raft_world.proofs.world.World.happen.Goals as goal
 
 pub returns-in-Err-clause-err : goal.returns-in-Err-clause-err

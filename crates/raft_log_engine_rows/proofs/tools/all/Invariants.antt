@@ -1,5 +1,0 @@
-use Rattle.raft_log_items.specs.Items.{IsReading}
-use Rattle.raft_log_engine_rows.proofs.tools.all.Given as goal
-
-abbrev pub invariant-loop : goal.invariant-loop
-invariant-loop g l = IsReading l.reader (g.F.FileSystem.disk l.files)

@@ -1,0 +1,2 @@
+pub mod LogIdList
+pub mod Faults

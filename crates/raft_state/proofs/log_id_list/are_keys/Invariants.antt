@@ -1,8 +1,0 @@
-use Rattle.std.proofs.Common.{drop}
-use Rattle.raft_state.specs.LogIdList.{AreKeys}
-use Rattle.raft_state.proofs.log_id_list.are_keys.Given as goal
-
-abbrev pub invariant-loop-at : goal.invariant-loop-at
-invariant-loop-at g l =
-    (AreKeys g.NID.Ord.cmp l.keys → AreKeys g.NID.Ord.cmp (drop l.at l.keys))
-    × (AreKeys g.NID.Ord.cmp (drop l.at l.keys) → AreKeys g.NID.Ord.cmp l.keys)
