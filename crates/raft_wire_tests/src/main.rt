@@ -4,6 +4,7 @@
 #![tactic(auto)]
 
 mod alone;
+mod bench;
 mod calls;
 mod changing;
 mod cutting;

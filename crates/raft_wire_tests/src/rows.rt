@@ -1,6 +1,7 @@
 //! Which call the words of a row name.
 
 use crate::alone::alone;
+use crate::bench::counted;
 use crate::calls::new_feeder;
 use crate::changing::changed;
 use crate::cutting::pieced;
@@ -71,6 +72,9 @@ impl Rows for Calls {
             });
         }
         if let Some(answer) = streamed(&mut self.feeder, alloc, words) {
+            return Some(answer);
+        }
+        if let Some(answer) = counted(alloc, words) {
             return Some(answer);
         }
         self.of_bytes(alloc, words)
