@@ -1,9 +1,9 @@
 //! Which call the words of a row name.
 
 use crate::calls::{between, ids, kept, loaded, store};
-use crate::node::{Fault, Kept, Node};
-use crate::texts::{push_answer, push_entries, push_fault, push_group, push_snapshot};
-use raft_rows::{Answer, Rows, bytes, number};
+use crate::store::{Calls, Fault, Kept};
+use crate::texts::{push_entries, push_fault, push_group, push_snapshot};
+use raft_rows::{Answer, Rows, number};
 use std::alloc::{AllocError, Global};
 
 /// Whether there was memory for an answer.
@@ -72,45 +72,26 @@ fn ask_store(
     }
 }
 
-impl Node {
-    // A new node, one that gets a group, or is on another log.
+impl Calls {
+    // A new store, or one on another log.
     fn change(&mut self, alloc: Global, words: &[&str]) -> bool {
         match *words {
-            ["node", id] => {
-                *self = Node::new(alloc, number(id));
-                true
-            }
-            ["add", group] => self.add(number(group)),
             ["begin-with", group, key, value] => self.begin_with(alloc, number(group), key, value),
             ["again"] => {
                 self.reopen(alloc);
                 true
             }
             _ => {
-                self.reset();
+                *self = Calls::new(alloc);
                 true
             }
         }
     }
 
-    fn take_words(
-        &mut self,
-        alloc: Global,
-        [now, peer, word]: [&str; 3],
-        text: &mut String,
-    ) -> Told {
-        let piece = bytes(alloc, word)?;
-        let answer = self.take(alloc, number(now), number(peer), piece.as_slice());
-        push_answer(text, &answer)
-    }
-
     fn told(&mut self, alloc: Global, words: &[&str], text: &mut String) -> Option<Told> {
         match *words {
-            ["groups"] => Some(push_ids(&mut self.groups.storage, alloc, text)),
-            ["at", now, "from", peer, word] => {
-                Some(self.take_words(alloc, [now, peer, word], text))
-            }
-            ["node" | "add" | "begin-with" | "again" | "reset", ..] => {
+            ["groups"] => Some(push_ids(&mut self.store, alloc, text)),
+            ["node" | "begin-with" | "again", ..] => {
                 Some(text.push_str(if self.change(alloc, words) {
                     "ok"
                 } else {
@@ -118,14 +99,14 @@ impl Node {
                 }))
             }
             [group, ref words @ ..] => {
-                ask_store(&mut self.groups.storage, alloc, number(group), words, text)
+                ask_store(&mut self.store, alloc, number(group), words, text)
             }
             [] => None,
         }
     }
 }
 
-impl Rows for Node {
+impl Rows for Calls {
     fn answer(&mut self, alloc: Global, words: &[&str]) -> Option<Answer> {
         let mut text = String::new(alloc);
         Some(match self.told(alloc, words, &mut text)? {

@@ -1,9 +1,7 @@
-//! What is stored, read and sent, written behind a text.
+//! What is stored and read, written behind a text.
 
-use crate::node::{Fault, Kept};
-use raft_framed_groups::{Answer, AnswerError, GroupFrame, Outcome};
+use crate::store::{Fault, Kept};
 use raft_group_storage::{GroupStorage, LoadedGroup};
-use raft_groups::GroupsFault;
 use raft_messages::{GroupEntry, SnapshotBytes};
 use raft_row_values::{IdText, VoteText};
 use raft_state::{BasicNode, EntryPayload, LogId, Membership};
@@ -93,36 +91,4 @@ pub fn push_group(text: &mut String, group: &LoadedGroup) -> Told {
     }
     write!(text, ", purged {}, ", IdText(group.purged))?;
     push_entries(text, group.log.as_slice())
-}
-
-// ---- what frames do
-
-// All frames that are sent, one behind the other.
-fn push_frames(text: &mut String, sent: &[GroupFrame]) -> Told {
-    text.push_str("\"")?;
-    for frame in sent {
-        write!(text, "{}", frame.bytes.as_slice().escape_ascii())?;
-    }
-    text.push_str("\"")
-}
-
-fn error_name(error: &AnswerError<Fault>) -> &'static str {
-    match error {
-        AnswerError::Stream(why) => why.name(),
-        AnswerError::WrongParty => "WrongParty",
-        AnswerError::Groups(GroupsFault::UnknownGroup) => "UnknownGroup",
-        AnswerError::Groups(_) => "Failed",
-        AnswerError::Unsent(_) => "Unsent",
-    }
-}
-
-/// What became of a piece.
-pub fn push_answer(text: &mut String, answer: &Answer<Fault>) -> Told {
-    match &answer.outcome {
-        Ok(Outcome::Waits) => text.push_str("waits"),
-        Ok(Outcome::Sent(sent)) => push_frames(text, sent.as_slice()),
-        Ok(Outcome::Refused(why)) => write!(text, "{why:?}"),
-        Ok(Outcome::Down) => text.push_str("down"),
-        Err(error) => text.push_str(error_name(error)),
-    }
 }

@@ -1,27 +1,28 @@
-//! A node with groups, and its peer's stream.
+//! A store over a log in memory.
 
 use raft_content_log::uses::put_key;
 use raft_content_log::{PlainFault, PlainLog};
-use raft_framed_groups::{Answer, answer_piece};
-use raft_groups::Groups;
 use raft_machines::AddingMachine;
 use raft_rows::bytes;
 use raft_store::{Store, StoreFault};
-use raft_wire::Feeder;
 use std::alloc::Global;
 use std::mem;
 
-/// Where the node keeps its groups.
+/// A node's groups, stored.
 pub type Kept = Store<AddingMachine, PlainLog>;
 
-/// Why the storage refuses a call.
+/// Why the store refuses a call.
 pub type Fault = StoreFault<PlainFault>;
 
 /// What the rows speak of.
 #[derive(Drop)]
-pub struct Node {
-    pub groups: Groups<Kept>,
-    feeder: Feeder,
+pub struct Calls {
+    pub store: Kept,
+}
+
+// A store that has nothing.
+fn empty(alloc: Global) -> Kept {
+    Store::new(alloc, PlainLog::new(alloc))
 }
 
 // A log that has one key of one group, or nothing where the key has no bytes.
@@ -37,20 +38,18 @@ fn log_with(alloc: Global, group: u64, key: &str, value: &str) -> Result<PlainLo
     }
 }
 
-impl Node {
-    /// It has nothing.
-    pub fn new(alloc: Global, id: u64) -> Node {
-        Node {
-            groups: Groups::new(alloc, id, Store::new(alloc, PlainLog::new(alloc))),
-            feeder: Feeder::new(alloc),
+impl Calls {
+    /// Nothing is stored.
+    pub fn new(alloc: Global) -> Calls {
+        Calls {
+            store: empty(alloc),
         }
     }
 
     /// The store is opened again on its log.
     pub fn reopen(&mut self, alloc: Global) {
-        let Node { groups, .. } = mem::replace(self, Node::new(alloc, 0));
-        let log = groups.into_storage().into_log();
-        self.groups.storage = Store::new(alloc, log);
+        let store = mem::replace(&mut self.store, empty(alloc));
+        self.store = Store::new(alloc, store.into_log());
     }
 
     /// The log has one key of one group, and nothing else. Whether there was memory.
@@ -58,21 +57,7 @@ impl Node {
         let Ok(log) = log_with(alloc, group, key, value) else {
             return false;
         };
-        self.groups.storage = Store::new(alloc, log);
+        self.store = Store::new(alloc, log);
         true
-    }
-
-    pub fn add(&mut self, group: u64) -> bool {
-        self.groups.add_group(group).is_ok()
-    }
-
-    /// The piece comes from the peer at this moment.
-    pub fn take(&mut self, alloc: Global, now: u64, peer: u64, piece: &[u8]) -> Answer<Fault> {
-        let Node { groups, feeder } = self;
-        answer_piece(alloc, groups, feeder, peer, piece, now)
-    }
-
-    pub fn reset(&mut self) {
-        self.feeder.reset();
     }
 }
