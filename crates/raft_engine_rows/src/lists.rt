@@ -2,11 +2,11 @@
 
 use crate::events::so;
 use crate::texts::each;
-use raft_row_values::{IdText, id, log_id, membership};
+use raft_row_values::{IdText, log_id, membership};
 use raft_rows::{Answer, number};
 use raft_state::{
-    BasicNode, EffectiveMembership, LogId, LogIdList, LogStateReader, Membership, RaftState,
-    are_keys,
+    BasicNode, EffectiveMembership, LeaderId, LogId, LogIdList, LogStateReader, Membership,
+    RaftState, are_keys,
 };
 use std::alloc::{AllocError, Global};
 
@@ -68,7 +68,9 @@ fn takes(
 // A log of one leader, by the first and the last log id.
 fn extends(alloc: Global) -> Result<Option<LogId<u64>>, AllocError> {
     let mut state: State = RaftState::default(alloc);
-    let log_ids = [id(1, 1, 0), id(1, 1, 1)];
+    // (that they go on is for the prover to see, so they are spelled here)
+    let leader_id = LeaderId::new(1, 1);
+    let log_ids = [LogId::new(leader_id, 0), LogId::new(leader_id, 1)];
     state.extend_log_ids_from_same_leader(&log_ids)?;
     Ok(state.last_log_id().copied())
 }
