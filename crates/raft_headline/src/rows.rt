@@ -209,7 +209,7 @@ pub fn unnamed_tokens()
 {}
 
 /// A node that an event stopped answers nothing until it is opened: not by another group's event
-/// either, and the opening of another node doesn't help.
+/// either. The opening of another node doesn't help, nor one that stopped or of which nothing came.
 pub fn stops_that_stay()
     ensures answers { StopsStay 7 (at_one (proposes 5 1) (Stopped [])
         ∷ at_one (proposes 6 2) (Done silent) ∷ [])
@@ -225,6 +225,10 @@ pub fn stops_that_stay()
         → ⊥ }
     ensures not_opened { StopsStay 7
         (at_one (proposes 5 1) Fused ∷ at_one (Reopen 1) Fused
+        ∷ at_one (proposes 6 2) (Done silent) ∷ [])
+        → ⊥ }
+    ensures opening_passed { StopsStay 7
+        (at_one (proposes 5 1) Fused ∷ at_one (Reopen 1) PassedOver
         ∷ at_one (proposes 6 2) (Done silent) ∷ [])
         → ⊥ }
     ensures opened { opens 1 (at_one (Reopen 1) (Opened [])) ≡ true }

@@ -190,7 +190,8 @@ commands_fit ids rs end h n s e up was =
 
 pub openings_fit : OpeningsFit
 openings_fit ids rs end h n stored down =
-    (steps_fit n (state_of stored) Open (stored_parts_fit ids rs end h n stored (ap stored_of down)) tt tt).commands
+    let k = steps_fit n (state_of stored) Open (stored_parts_fit ids rs end h n stored (ap stored_of down)) tt tt in
+    (k.commands, k.stored)
 
 -- ---- what is given of each event and its node
 

@@ -43,9 +43,10 @@ CommandsFit =
     → (n : ℕ) (s : GroupState) (e : GroupEvent) → end.nodes n ≡ Up s → WasSent end.messages e
     → AllFit s.stored (group_step n s e).commands
 
--- the same of a node that opens
+-- the same of a node that opens, and what it goes on with fits
 abbrev pub OpeningsFit : Type 0
 OpeningsFit =
     (ids : List ℕ) (rs : List Recorded) (end : GroupWorld) → IsGroupHistory ids rs end
     → (n : ℕ) (stored : StoredGroup) → end.nodes n ≡ Down stored
     → AllFit stored (group_step n (state_of stored) Open).commands
+    × FitsStored (group_step n (state_of stored) Open).state.stored

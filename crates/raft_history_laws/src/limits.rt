@@ -19,7 +19,8 @@ pub fn histories_fit()
 {}
 
 /// Whatever comes to a node, or opens it, what it stores fits what it has stored: entries are put right behind the log, at their
-/// places and at most 64 at a time, so no put shortens a log; a cut begins inside the log, and its front never comes back.
+/// places and at most 64 at a time, so no put shortens a log; a cut begins inside the log, and its front never comes back. An
+/// opening drops a log only where that lacks the last entry of the snapshot, and what the node goes on with is within the limits.
 pub fn stored_commands_fit()
     ensures commands { CommandsFit }
     ensures openings { OpeningsFit }

@@ -1,17 +1,18 @@
 //! Rows that pin the words of accounts.
 
-ghost use Rattle.std.specs.Prelude.{◌≡◌, ◌∷◌, [], true, false};
+ghost use Rattle.std.specs.Prelude.{◌≡◌, ◌∷◌, ◌++◌, [], true, false};
 ghost use Rattle.raft_values.specs.LogId.{log_id_of};
 ghost use Rattle.raft_values.specs.Vote.{vote_of};
 ghost use Rattle.raft_state.specs.declared.entry.EntryPayload.TheVariants.{Normal};
 ghost use Rattle.raft_laws.specs.ConflictRun.{another_leads};
 ghost use Rattle.raft_laws.specs.Example.{add, run_of, three};
-ghost use Rattle.raft_laws.specs.LawRuns.{after, first_two as two_noted};
+ghost use Rattle.raft_laws.specs.LawRuns.{after, blank_at, first_two as two_noted};
 ghost use Rattle.raft_laws.specs.ThreeNodes.{until_proposed};
 ghost use Rattle.raft_history_laws.specs.LeaderListsRun.{leads_on_behind_a_stop};
+ghost use Rattle.raft_history_laws.specs.WholeSnapshotsRun.{first_entries, set_up_entry};
 ghost use Rattle.raft_list_laws.specs.Accounts.{settled_of};
 ghost use Rattle.raft_list_laws.specs.AccountsRows.{accounts_with, first_list, first_two, second_list, second_note};
-ghost use Rattle.raft_list_laws.specs.Bases.{base_of, before_own};
+ghost use Rattle.raft_list_laws.specs.Bases.{WasNotedBefore, base_of, before_own};
 ghost use Rattle.raft_list_laws.specs.Changes.{note_reaches};
 ghost use Rattle.raft_list_laws.specs.NotesRun.{base_gone_on, bases_under, list_gone_on, list_of_note};
 
@@ -43,6 +44,16 @@ pub fn bases_of_leaders()
     ensures nothing { before_own (vote_of 0 0 true).leader_id first_list ≡ [] }
     ensures first { bases_under (vote_of 1 1 true) (run_of three until_proposed) ≡ (log_id_of 0 0 0 ∷ []) ∷ (log_id_of 0 0 0 ∷ []) ∷ (log_id_of 0 0 0 ∷ []) ∷ [] }
     ensures next { bases_under (vote_of 2 2 true) (run_of three another_leads) ≡ two_noted ∷ [] }
+{}
+
+/// What the second leader took over was noted before, and so was each front of it: not with an entry more than the first leader
+/// ever had, nor by notes under its own vote, nor by later ones.
+pub fn lists_noted_before()
+    ensures base { WasNotedBefore (run_of three another_leads) 3 (vote_of 2 2 true) (set_up_entry ∷ blank_at 1 ∷ []) }
+    ensures front { WasNotedBefore (run_of three another_leads) 3 (vote_of 2 2 true) (set_up_entry ∷ []) }
+    ensures longer { WasNotedBefore (run_of three another_leads) 3 (vote_of 2 2 true) (first_entries ++ blank_at 3 ∷ []) → ⊥ }
+    ensures own_vote { WasNotedBefore (run_of three another_leads) 3 (vote_of 1 1 true) (set_up_entry ∷ []) → ⊥ }
+    ensures later { WasNotedBefore (run_of three another_leads) 0 (vote_of 2 2 true) (set_up_entry ∷ []) → ⊥ }
 {}
 
 /// A leader is noted first with a blank entry behind what it took over. Its next note has nothing new, or the command of its event; and

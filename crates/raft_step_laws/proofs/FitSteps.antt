@@ -1,8 +1,8 @@
 -- What a step stores and sends fits the limits, where what the node has and is sent does.
 use Rattle.std.specs.Prelude.{◌≡◌, ℕ, ◌+◌, ◌-◌, ◌≤◌, ◌==◌, ◌&&◌, ◌||◌, cond, is_none, is_some, nat_le, nat_lt, not, Bool, true, false, List, [], ◌∷◌, ◌++◌, drop, filter, length, take, Option, Some, None, All, IfSome, IsTrue, refl}
 use Rattle.std.specs.List.{list_any}
-use Rattle.std.proofs.Common.{sym, ap, ◌∙◌, subst, arith, eqb-true}
-use Rattle.std.proofs.lemmas.Bool.{and_parts}
+use Rattle.std.proofs.Common.{sym, ap, ◌∙◌, subst, arith, eqb-true, ltb-false}
+use Rattle.std.proofs.lemmas.Bool.{and_parts, or_parts}
 use Rattle.std.proofs.lemmas.List.{length-take, length-take-le}
 use Rattle.std.proofs.lemmas.List.Elements.{All-append, All-cons, All-drop, All-filter, All-nil, All-tail, All-take}
 use Rattle.std.proofs.lemmas.Option.{slice_get_within}
@@ -437,9 +437,16 @@ module _ (base : StoredGroup) where
 
   -- ---- openings
 
-  dropped : (last : Option (LogId ℕ)) (r : StepResult) → Keeps r → Keeps (drop_stale_log last r)
-  dropped None r h = h
-  dropped (Some last) r h = either Keeps (is_joined_to r.state.stored last) r (store (StartAfter last) r) h (stores (StartAfter last) r h tt)
+  dropped : (last : Option (LogId ℕ)) (r : StepResult) → snapshot_last r.state.stored ≡ last → Keeps r → Keeps (drop_stale_log last r)
+  dropped None r is h = h
+  dropped (Some last) r is h =
+      let st = r.state.stored in
+      either_by Keeps (is_joined_to st last) r (store (StartAfter last) r)
+      (λ t. h)
+      (λ f.
+      let apart = or_parts (nat_lt last.index (first_place st)) (has_id_in_log st last) f in
+      let above = ltb-false last.index (first_place st) apart.0 in
+      stores (StartAfter last) r h (record { behind_snapshot = is; goes_on = omega (arith, above); lacks = apart.1 }))
 
   resumed : (own : ℕ) (r : StepResult) → Keeps r → Keeps (resume_lead own r)
   resumed own r h =
@@ -529,7 +536,7 @@ module _ (own : ℕ) (s : GroupState) (fits : FitsStored s.stored) where
       let last = snapshot_last s.stored in
       let fresh = unchanged (state_of s.stored) in
       resumed s.stored own _
-      (same s.stored (drop_stale_log last fresh) _ refl refl refl (dropped s.stored last fresh (none_yet (state_of s.stored) refl)))
+      (same s.stored (drop_stale_log last fresh) _ refl refl refl (dropped s.stored last fresh refl (none_yet (state_of s.stored) refl)))
 
   step_keeps : (e : GroupEvent) → ComesWithin s e → FitsEvent e → (why : Option RefusalReason) → refusal_of own s e ≡ why → Keeps s.stored (step_unless why own s e)
   step_keeps e c f (Some why) is = same s.stored (unchanged s) (refused_step s why) refl refl refl (none_yet s refl)

@@ -1,10 +1,11 @@
 -- What a step stores and sends fits the limits, where what the node has and is sent does.
-use Rattle.std.specs.Prelude.{◌≡◌, ℕ, ◌+◌, ◌<◌, ◌≤◌, List, [], ◌∷◌, length, slice_get, Option, Some, None, IsTrue, All, IfSome}
+use Rattle.std.specs.Prelude.{◌≡◌, ℕ, ◌+◌, ◌<◌, ◌≤◌, false, List, [], ◌∷◌, length, slice_get, Option, Some, None, IsTrue, All, IfSome}
+use Rattle.raft_values.specs.declared.log_id.LogId.{LogId}
 use Rattle.raft_values.specs.LogId.{next_place}
 use Rattle.raft_group_step.specs.Limits.{entries_in_request}
 use Rattle.raft_group_step.specs.Values.{Entry, EntryPayload, LoggedMembership, is_within_limits}
 use Rattle.raft_group_step.specs.Refusal.{is_payload_short}
-use Rattle.raft_group_step.specs.StoredGroup.{Snapshot, StoredGroup, after_storing, end_place, first_place}
+use Rattle.raft_group_step.specs.StoredGroup.{Snapshot, StoredGroup, after_storing, end_place, first_place, has_id_in_log, snapshot_last}
 use Rattle.raft_group_step.specs.StoredGroup.{StoringCommand, MakeGroup, SetVote, PutEntries, CutFrom, RemoveUpTo, SetSnapshot, StartAfter}
 use Rattle.raft_group_step.specs.Message.{AppendFields, Message, MessageBody, VoteRequest, VoteReply, AppendRequest, AppendReply, SnapshotRequest, SnapshotReply}
 use Rattle.raft_group_step.specs.Message.{Conflict, HigherVote, Numbered, PartialSuccess, ReplyFields, ReplyResult, Success}
@@ -101,6 +102,12 @@ pub record FitsPut (s : StoredGroup) (place : ℕ) (es : List Entry) : Type 0 wh
   pub entries : FitEntries es
   pub placed : ArePlacedFrom place es
 
+-- a log is dropped that lacks the snapshot's last entry, and begins anew right behind that: so its front never comes back
+pub record FitsStart (s : StoredGroup) (id : LogId ℕ) : Type 0 where
+  pub behind_snapshot : snapshot_last s ≡ Some id
+  pub goes_on : first_place s ≤ id.index
+  pub lacks : has_id_in_log s id ≡ false
+
 abbrev pub FitsStoring : StoredGroup → StoringCommand → Type 0
 FitsStoring s MakeGroup = Unit {0}
 FitsStoring s (SetVote vote) = Unit {0}
@@ -108,7 +115,7 @@ FitsStoring s (PutEntries place es) = FitsPut s place es
 FitsStoring s (CutFrom place) = (first_place s ≤ place) × (place < end_place s)
 FitsStoring s (RemoveUpTo id) = first_place s ≤ id.index + 1
 FitsStoring s (SetSnapshot snapshot) = IsSnapshotBounded snapshot
-FitsStoring s (StartAfter id) = Unit {0}
+FitsStoring s (StartAfter id) = FitsStart s id
 
 -- each of these commands, in their order
 abbrev pub AllFit : StoredGroup → List StoringCommand → Type 0

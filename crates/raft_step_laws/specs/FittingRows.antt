@@ -58,6 +58,11 @@ snapshot_of m =
       «prefix» = [];
     }
 
+-- that group with a snapshot up to this log id
+abbrev pub with_snapshot : LogId ℕ → StoredGroup
+with_snapshot last =
+    record behind_a_purge { snapshot = Some (record (snapshot_of (groups 1)) { last = last }) }
+
 -- node 1 asks for a vote
 abbrev pub message_of_one : GroupEvent
 message_of_one =

@@ -7,16 +7,17 @@ ghost use Rattle.raft_values.specs.Vote.{vote_of};
 ghost use Rattle.raft_state.specs.declared.entry.EntryPayload.TheVariants.{Membership as Members, Normal};
 ghost use Rattle.raft_group_step.specs.GroupEvent.{Open};
 ghost use Rattle.raft_group_step.specs.Message.{AppendReply, Conflict, HeartBeat, HigherVote, Numbered, PartialSuccess, SnapshotReply, Success};
-ghost use Rattle.raft_group_step.specs.StoredGroup.{CutFrom, PutEntries, RemoveUpTo};
+ghost use Rattle.raft_group_step.specs.StoredGroup.{CutFrom, PutEntries, RemoveUpTo, StartAfter};
 ghost use Rattle.raft_group_step.specs.StepExample.{blank_at, with_log};
 ghost use Rattle.raft_step_laws.specs.Fitting.{AllFit, ArePlacedFrom, ComesWithin, IsBodyBounded, IsPayloadBounded, FitsRequest, IsSnapshotBounded};
 ghost use Rattle.raft_step_laws.specs.Fitting.{IsSnapshotReplyBounded, FitsStored, FitsStoring, IsCommittedWithin, StepsFit};
-ghost use Rattle.raft_step_laws.specs.FittingRows.{behind_a_purge, blanks_from, committed_to, groups, message_of_one, reply, request, snapshot_of};
+ghost use Rattle.raft_step_laws.specs.FittingRows.{behind_a_purge, blanks_from, committed_to, groups, message_of_one, reply, request, snapshot_of, with_snapshot};
 
 /// Where what a node has fits, and what comes to it, so does what a step stores and sends, and what is left of it at its end or
 /// after a stop. A command has at most 65,536 bytes, a membership is within its limits. A request has at most 64 entries, which
 /// follow the previous one. A snapshot's reply has a number and no previous log id. At most 64 entries are put at a time, at their
-/// places, right behind the log; the log is cut inside, and its front never comes back.
+/// places, right behind the log; the log is cut inside, and its front never comes back. An opening drops a log only where that
+/// lacks the last entry of the snapshot.
 pub fn steps_fit()
     ensures { StepsFit }
 {}
@@ -52,6 +53,7 @@ pub fn snapshot_replies_that_fit()
 {}
 
 /// Entries are put right behind the log, at their places; the log is cut where it has an entry, and its front never comes back.
+/// It is dropped for the snapshot that is stored, where it lacks that one's last entry.
 pub fn commands_that_fit()
     ensures behind { FitsStoring behind_a_purge (PutEntries 4 (blank_at 4 ∷ [])) }
     ensures inside { FitsStoring behind_a_purge (PutEntries 3 (blank_at 3 ∷ [])) → ⊥ }
@@ -65,6 +67,10 @@ pub fn commands_that_fit()
     ensures cut_before { FitsStoring behind_a_purge (CutFrom 1) → ⊥ }
     ensures removed { FitsStoring behind_a_purge (RemoveUpTo (log_id_of 1 1 2)) }
     ensures comes_back { FitsStoring behind_a_purge (RemoveUpTo (log_id_of 1 1 0)) → ⊥ }
+    ensures dropped { FitsStoring (with_snapshot (log_id_of 2 2 3)) (StartAfter (log_id_of 2 2 3)) }
+    ensures not_in_snapshot { FitsStoring (with_snapshot (log_id_of 2 2 3)) (StartAfter (log_id_of 2 2 4)) → ⊥ }
+    ensures has_it { FitsStoring (with_snapshot (log_id_of 1 1 3)) (StartAfter (log_id_of 1 1 3)) → ⊥ }
+    ensures purged_it { FitsStoring (with_snapshot (log_id_of 1 1 1)) (StartAfter (log_id_of 1 1 1)) → ⊥ }
     ensures in_turn { AllFit behind_a_purge (PutEntries 4 (blank_at 4 ∷ []) ∷ PutEntries 5 (blank_at 5 ∷ []) ∷ []) }
     ensures out_of_turn { AllFit behind_a_purge (CutFrom 3 ∷ PutEntries 4 (blank_at 4 ∷ []) ∷ []) → ⊥ }
 {}

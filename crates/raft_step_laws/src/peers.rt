@@ -69,12 +69,14 @@ pub fn peers_after_steps()
     ensures stands { known_after leader (Call Elect 0) 1 ≡ None }
 {}
 
-/// A peer is served that was asked before or is asked in this step: by a request to it, of that number.
+/// A peer is served that was asked before or is asked in this step: by a request to it, of that number. Behind the step that
+/// is to be outstanding: none is where the leader gives way.
 pub fn peers_that_are_served()
     ensures asked_before { IsServed leader beat 1 }
     ensures asked_now { IsServed leader beat 3 }
     ensures not_asked { IsServed leader (unchanged leader) 3 → ⊥ }
     ensures not_known { IsServed leader (unchanged beat.state) 3 → ⊥ }
+    ensures gives_way { IsServed leader (group_step 2 leader (hears_of (vote_of 3 3 true))) 1 → ⊥ }
     ensures sent { IsSent (to 1 (request (Numbered 1)) ∷ []) 1 1 }
     ensures snapshot { IsSent (to 1 (snapshot_request 5) ∷ []) 1 5 }
     ensures notice { IsSent (to 1 (request HeartBeat) ∷ []) 1 1 → ⊥ }

@@ -1,7 +1,7 @@
 use Rattle.std.specs.Prelude.{◌≡◌, ℕ, zero, suc, true, false, [], ◌∷◌, slice_get, Some, None, Contains, refl}
 use Rattle.std.proofs.Common.{subst}
 use Rattle.raft_laws.proofs.Counts.{contains_at}
-use Rattle.raft_headline.specs.ClusterEvent.{Ask, Deliver, Done, Fused, Opened, Recorded, Reopen, Stopped, silent}
+use Rattle.raft_headline.specs.ClusterEvent.{Ask, Deliver, Done, Fused, Opened, PassedOver, Recorded, Reopen, Stopped, silent}
 use Rattle.raft_group_step.specs.declared.group_call.GroupCall.TheVariants.{Elect}
 use Rattle.raft_headline.specs.Rows.{at_one, proposes}
 use Rattle.raft_headline.specs.Stops.{opens}
@@ -39,3 +39,6 @@ returns-clause-other_opened c = λ h. untrue (h [] (at_one (Reopen 2) (Opened []
 
 pub returns-clause-not_opened : goal.returns-clause-not_opened
 returns-clause-not_opened c = λ h. untrue (h [] (at_one (Reopen 1) Fused ∷ []) [] (at_one (proposes 5 1) Fused) (at_one (proposes 6 2) (Done silent)) refl refl (one_between (at_one (Reopen 1) Fused) refl) refl refl)
+
+pub returns-clause-opening_passed : goal.returns-clause-opening_passed
+returns-clause-opening_passed c = λ h. untrue (h [] (at_one (Reopen 1) PassedOver ∷ []) [] (at_one (proposes 5 1) Fused) (at_one (proposes 6 2) (Done silent)) refl refl (one_between (at_one (Reopen 1) PassedOver) refl) refl refl)
