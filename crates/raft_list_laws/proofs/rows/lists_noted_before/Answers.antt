@@ -9,7 +9,6 @@ use Rattle.raft_laws.specs.GroupWorld.{Led}
 use Rattle.raft_laws.specs.LawRuns.{blank_at}
 use Rattle.raft_laws.proofs.BallotAgreement.{same_some}
 use Rattle.raft_history_laws.specs.WholeSnapshotsRun.{first_entries, set_up_entry}
-use Rattle.raft_list_laws.specs.Bases.{WasNotedBefore}
 use Rattle.raft_list_laws.proofs.rows.lists_noted_before.Goals as goal
 
 -- a note of the first leader
