@@ -39,5 +39,6 @@ pub mod GapLemmas
 pub mod AlternatingLemmas
 pub mod ForwardLemmas
 pub mod ClockLemmas
+pub mod EndLemmas
 pub mod StartLemmas
 pub mod ForceLemmas
