@@ -1,9 +1,9 @@
 -- Why a call was refused.
-use Rattle.std.proofs.Common.{◌≡◌, ℕ, ◌+◌, ◌-◌, ◌^◌, min, Bool, true, false, if◌then◌else◌, refl, sym, ap, subst, ◌∙◌}
-use Rattle.std.specs.Prelude.{Result, Ok, Err, OnErr, IsErrOf}
+use Rattle.std.proofs.Common.{◌≡◌, ◌⊎◌, inl, inr, ℕ, ◌+◌, ◌-◌, ◌^◌, min, Bool, true, false, if◌then◌else◌, refl, sym, ap, subst, ◌∙◌}
+use Rattle.std.specs.Prelude.{Option, Some, Result, Ok, Err, OnErr, IsErrOf}
 use Rattle.raft_log_disk.specs.declared.fault.IoFault.{IoFault}
 use Rattle.raft_log_disk.specs.declared.fault.IoFault.TheVariants.{NotFound, NoSpace, Refused, Memory}
-use Rattle.raft_log_disk.specs.Cause.{Meter, HasCause, HasReadCause, IsCausedCall, counted, lacked}
+use Rattle.raft_log_disk.specs.Cause.{Meter, HasCause, HasReadCause, IsCausedCall, counted, spent}
 
 -- two calls, the first one taken; the second finds what it names
 pub second_cause : {S T : Type 0} (absent gone : Type 0) (before between after : Meter) (first : S) (second : Result T IoFault)
@@ -37,7 +37,7 @@ counts_alike S T NotFound n = refl
 counts_alike S T NoSpace n = refl
 counts_alike S T Memory n = refl
 
-same_fault : (S T : Type 0) (e f : IoFault) → IsErrOf {T = T} (Err e) f → IsErrOf {T = S} (Err e) f
+pub same_fault : (S T : Type 0) (e f : IoFault) → IsErrOf {T = T} (Err e) f → IsErrOf {T = S} (Err e) f
 same_fault S T e f h = let same : e ≡ f = cc in λ i. Err (same i)
 
 -- a fault is handed on
@@ -88,3 +88,8 @@ memory_cause absent unreadable r is read = subst (HasReadCause absent unreadable
 pub at_err : {S E : Type 0} (r : Result S E) (P : Type 0) → P → OnErr r P
 at_err (Ok x) P p = tt
 at_err (Err e) P p = p
+
+-- the first of two calls was the refused one
+pub first_why : (barred : Type 0) (l : Option ℕ) (faulty : Type 0) → (l ≡ Some 0) ⊎ (faulty ⊎ barred) → (spent l ≡ Some 0) ⊎ (faulty ⊎ barred)
+first_why barred l faulty (inl blown) = inl (ap spent blown)
+first_why barred l faulty (inr other) = inr other

@@ -4,6 +4,7 @@ pub mod ChanceLemmas
 pub mod CrashLemmas
 pub mod DigitLemmas
 pub mod DiskLemmas
+pub mod EndLemmas
 pub mod FilesLemmas
 pub mod HeaderLemmas
 pub mod LawLemmas

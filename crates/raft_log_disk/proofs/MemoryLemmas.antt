@@ -1,11 +1,10 @@
 -- What the changes of a file in memory stand for.
-use Rattle.std.proofs.Common.{◌≡◌, ◌⊎◌, inl, inr, ℕ, ◌+◌, ◌-◌, ◌<◌, ◌≤◌, min, max, Bool, true, false, cond, eqb, List, [], ◌∷◌, ◌++◌, length, get_or, take, drop, Option, Some, None, refl, sym, ap, subst, ◌∙◌, arith}
-use Rattle.std.specs.Prelude.{map}
+use Rattle.std.proofs.Common.{◌≡◌, ℕ, ◌+◌, ◌-◌, ◌<◌, ◌≤◌, min, max, List, [], ◌∷◌, ◌++◌, length, get_or, take, refl, sym, ap, ◌∙◌, arith, append_assoc}
 use Rattle.std.proofs.lemmas.List.{map-append, take_more}
 use Rattle.raft_log_disk.specs.declared.memory_file.MemoryFile.{MemoryFile}
 use Rattle.raft_log_disk.specs.declared.memory_file.Change.{Change}
 use Rattle.raft_log_disk.specs.declared.memory_file.Written.{Written}
-use Rattle.raft_log_disk.specs.Disk.{FileState, put, after_write, after_truncate, after_allocate, renamed}
+use Rattle.raft_log_disk.specs.Disk.{after_write, after_truncate, after_allocate, renamed}
 use Rattle.raft_log_disk.specs.Memory.{state_of}
 use Rattle.raft_log_disk.specs.Changes.{spans_of, ranges_of, undo, undone, noted_file}
 
@@ -21,6 +20,19 @@ ranges_more cs ds c from to is f t = ap ranges_of is ∙ map-append (λ (c : Cha
 
 pub spans_more : (ws vs : List Written) (w : Written) (at : ℕ) (bytes : List ℕ) → vs ≡ ws ++ w ∷ [] → w.at ≡ at → w.bytes.items ≡ bytes → spans_of vs ≡ spans_of ws ++ (at, bytes) ∷ []
 spans_more ws vs w at bytes is a b = ap spans_of is ∙ map-append (λ (w : Written). (w.at, w.bytes.items)) ws (w ∷ []) ∙ (λ i. spans_of ws ++ (a i, b i) ∷ [])
+
+-- writes that are copied one by one
+pub spans_copied : (from to after : List Written) (first : List (ℕ × List ℕ)) (at : ℕ) (w v : Written) → spans_of to ≡ first ++ spans_of (take at from) → at < length from → w ≡ get_or from at w → v.at ≡ w.at → v.bytes.items ≡ w.bytes.items → after ≡ to ++ v ∷ []
+    → spans_of after ≡ first ++ spans_of (take (at + 1) from)
+spans_copied from to after first at w v was lt is place bytes pushed =
+    spans_more to after v w.at w.bytes.items pushed place bytes
+    ∙ ap (λ l. l ++ (w.at, w.bytes.items) ∷ []) was
+    ∙ append_assoc first (spans_of (take at from)) ((w.at, w.bytes.items) ∷ [])
+    ∙ ap (λ l. first ++ l) (sym (spans_more (take at from) (take (at + 1) from) w w.at w.bytes.items (take_more from at w lt ∙ ap (λ (x : Written). take at from ++ x ∷ []) (sym is)) refl refl))
+
+-- nothing was noted
+pub unnoted : (old : MemoryFile) (ds : List Change) (ws : List Written) → ds ≡ old.changes.items → ws ≡ old.later.items → noted_file old.bytes.items ds old.least old.greatest old.earlier.items ws old.brought.items ≡ state_of old
+unnoted old ds ws cs written = λ i. noted_file old.bytes.items (cs i) old.least old.greatest old.earlier.items (written i) old.brought.items
 
 -- a write that was noted
 pub write_noted : (old : MemoryFile) (ds : List Change) (ws : List Written) (c : Change) (w : Written) (at greatest : ℕ) (seen target bytes : List ℕ)

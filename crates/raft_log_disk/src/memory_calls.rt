@@ -101,7 +101,10 @@ impl FileSystem for MemoryFileSystem {
     }
 
     fn make_dir(&mut self, path: &str) -> Result<(), IoFault> {
-        if self.fuse.spend() || self.has_file(path) {
+        if self.fuse.spend() {
+            return Err(self.fuse.refuse());
+        }
+        if self.has_file(path) {
             return Err(self.fuse.refuse());
         }
         if has_text(&self.directories, path) {
@@ -123,9 +126,7 @@ impl FileSystem for MemoryFileSystem {
         }
         if is_refused {
             // Without memory for its note the call took no effect.
-            let Ok(()) = self.files[i].refuse_write(self.alloc, at, bytes) else {
-                return Err(self.fuse.refuse());
-            };
+            let _ = self.files[i].refuse_write(self.alloc, at, bytes);
             return Err(self.fuse.refuse());
         }
         let growth = (at + bytes.len()).saturating_sub(self.files[i].bytes.len());
@@ -144,9 +145,7 @@ impl FileSystem for MemoryFileSystem {
         let len = len as usize;
         if is_refused {
             // Without memory for its note the call took no effect.
-            let Ok(()) = self.files[i].refuse_truncate(self.alloc, len) else {
-                return Err(self.fuse.refuse());
-            };
+            let _ = self.files[i].refuse_truncate(self.alloc, len);
             return Err(self.fuse.refuse());
         }
         let growth = len.saturating_sub(self.files[i].bytes.len());
@@ -168,9 +167,7 @@ impl FileSystem for MemoryFileSystem {
         }
         if is_refused {
             // Without memory for its note the call took no effect.
-            let Ok(()) = self.files[i].refuse_allocate(self.alloc, at, len) else {
-                return Err(self.fuse.refuse());
-            };
+            let _ = self.files[i].refuse_allocate(self.alloc, at, len);
             return Err(self.fuse.refuse());
         }
         let growth = (at + len).saturating_sub(self.files[i].bytes.len());

@@ -1,33 +1,119 @@
 use Rattle.std.proofs.Common.{true, inl, inr, ◌≡◌, ◌+◌, ◌-◌, length, arith, refl, sym, ap, subst, ◌^◌, min, ◌∙◌}
-use Rattle.std.specs.Prelude.{Vec, String}
-use Rattle.std.specs.declared.alloc.Global.{Global}
-use Rattle.raft_log_disk.specs.Disk.{LacksRoom}
-use Rattle.raft_log_disk.specs.Memory.{file_of, texts_of}
+use Rattle.raft_log_disk.specs.Disk.{LacksRoom, after_write, put}
+use Rattle.raft_log_disk.specs.Memory.{file_of}
 use Rattle.raft_log_disk.specs.MemorySystem.{disk_in, room_in}
-use Rattle.raft_log_disk.proofs.CauseLemmas.{cramped_cause, taken_cause, at_err}
-use Rattle.raft_log_disk.proofs.FilesLemmas.{length_there, number_there, file_kept, refused_write_noted}
+use Rattle.raft_log_disk.proofs.CauseLemmas.{at_err, cramped_cause}
+use Rattle.raft_log_disk.proofs.EndLemmas.{IsSpent, absent_call, absent_cause, at_end, at_fault, call_cause, cramped_call, memory_call, memory_cause, not_blown, not_ok, noted_or_kept, one_call, read_alike, refused_by, refused_call, refused_cause, refused_free}
+use Rattle.raft_log_disk.proofs.FilesLemmas.{file_changed, file_kept, length_there, number_there, refused_write_noted, still_named}
+use Rattle.raft_log_disk.proofs.RisingLemmas.{still_rising}
 use Rattle.raft_log_disk.proofs.memory_calls.MemoryFileSystemFileSystem.write_at.Goals as goal
 
-pub returns-then-is_cramped-clause-cause : goal.returns-then-is_cramped-clause-cause
-returns-then-is_cramped-clause-cause c =
+pub invariant_of-self : goal.invariant_of-self
+invariant_of-self c = record { named = c.args.self.now.named; rising = c.args.self.now.rising }
+
+pub invariant_of-self-in_default : goal.invariant_of-self-in_default
+invariant_of-self-in_default c = record { named = c.args.self.now.named; rising = c.args.self.now.rising }
+
+pub invariant_of-self-then-bytes-at : goal.invariant_of-self-then-bytes-at
+invariant_of-self-then-bytes-at c = record { named = c.args.self.now.named; rising = c.args.self.now.rising }
+
+pub invariant_of-self-then-is_refused : goal.invariant_of-self-then-is_refused
+invariant_of-self-then-is_refused c = record {
+  named = still_named c.args.self.now.files.items c.args.fd.0 c.in-Some.i c.args.self.now.next c.index_mut.result.now c.refuse_write.new.self c.args.self.now.named c.in-Some.ensures c.index_mut.ensures.value c.refuse_write.ensures.number c.refuse_write.ensures.path;
+  rising = still_rising c.args.self.now.files.items c.args.fd.0 c.in-Some.i c.index_mut.result.now c.refuse_write.new.self c.args.self.now.rising c.in-Some.ensures c.index_mut.ensures.value c.refuse_write.ensures.number c.refuse_write.ensures.path;
+}
+
+pub invariant_of-self-then-is_cramped : goal.invariant_of-self-then-is_cramped
+invariant_of-self-then-is_cramped c = record { named = c.args.self.now.named; rising = c.args.self.now.rising }
+
+pub invariant_of-self-2 : goal.invariant_of-self-2
+invariant_of-self-2 c = record {
+  named = still_named c.args.self.now.files.items c.args.fd.0 c.in-Some.i c.args.self.now.next c.index_mut-2.result.now c.write.new.self c.args.self.now.named c.in-Some.ensures c.index_mut-2.ensures.value c.write.ensures.number c.write.ensures.path;
+  rising = still_rising c.args.self.now.files.items c.args.fd.0 c.in-Some.i c.index_mut-2.result.now c.write.new.self c.args.self.now.rising c.in-Some.ensures c.index_mut-2.ensures.value c.write.ensures.number c.write.ensures.path;
+}
+
+pub is_cramped-requires : goal.is_cramped-requires
+is_cramped-requires c = c.in-Some.ensures.within
+
+pub returns-in_default : goal.returns-in_default
+returns-in_default c =
+    let spend : IsSpent c.args.self.now.fuse c.spend-is_refused.new.self = record { left = c.spend-is_refused.ensures.left; refusals = c.spend-is_refused.ensures.refusals; lacks = c.spend-is_refused.ensures.lacks; reads = c.spend-is_refused.ensures.reads } in
+    record {
+      ok = tt;
+      err = inl refl;
+      unchanged = at_fault c.missing.result _ refl;
+      cause = absent_cause true _ _ c.spend-is_refused.result c.args.self.now.fuse c.spend-is_refused.new.self c.missing.new.self c.missing.result c.missing.ensures.fault spend c.missing.ensures.left c.missing.ensures.counted c.missing.ensures.lacks c.missing.ensures.reads c.in_default.ensures;
+      call = absent_call _ c.spend-is_refused.result c.args.self.now.fuse c.spend-is_refused.new.self c.missing.new.self c.missing.result c.missing.ensures.fault spend c.missing.ensures.left c.spend-is_refused.ensures.blown c.spend-is_refused.ensures.only;
+      bound = λ b. b;
+    }
+
+pub returns-then-bytes-at : goal.returns-then-bytes-at
+returns-then-bytes-at c =
+    let spend : IsSpent c.args.self.now.fuse c.spend-is_refused.new.self = record { left = c.spend-is_refused.ensures.left; refusals = c.spend-is_refused.ensures.refusals; lacks = c.spend-is_refused.ensures.lacks; reads = c.spend-is_refused.ensures.reads } in
+    let by = refused_by c.args.self.now.fuse c.spend-is_refused.new.self c.refuse.new.self spend c.refuse.ensures.left c.refuse.ensures.counted c.refuse.ensures.lacks c.refuse.ensures.reads in
+    record {
+      ok = tt;
+      err = inl refl;
+      unchanged = refused_free _ c.refuse.result c.refuse.ensures.refused;
+      cause = refused_cause true _ _ c.args.self.now.fuse c.refuse.new.self c.refuse.result c.refuse.ensures.refused by;
+      call = refused_call _ c.args.self.now.fuse c.refuse.new.self c.refuse.result c.refuse.ensures.refused by (inr (omega arith));
+      bound = λ b. b;
+    }
+
+pub returns-then-is_refused : goal.returns-then-is_refused
+returns-then-is_refused c =
+    let spend : IsSpent c.args.self.now.fuse c.spend-is_refused.new.self = record { left = c.spend-is_refused.ensures.left; refusals = c.spend-is_refused.ensures.refusals; lacks = c.spend-is_refused.ensures.lacks; reads = c.spend-is_refused.ensures.reads } in
+    let by = refused_by c.args.self.now.fuse c.spend-is_refused.new.self c.refuse-then-is_refused.new.self spend c.refuse-then-is_refused.ensures.left c.refuse-then-is_refused.ensures.counted c.refuse-then-is_refused.ensures.lacks c.refuse-then-is_refused.ensures.reads in
+    record {
+      ok = tt;
+      err = noted_or_kept c.refuse_write.result _ _ _ _ (file_kept c.args.self.now.directories.items c.args.self.now.files.items c.args.fd.0 c.in-Some.i c.args.self.now.next c.index_mut.result.now c.refuse_write.new.self c.in-Some.ensures c.index_mut.ensures.value c.refuse_write.ensures.number c.refuse_write.ensures.path)
+          (refused_write_noted c.args.self.now.directories.items c.args.self.now.files.items c.args.fd.0 c.in-Some.i c.args.self.now.next c.args.at c.args.bytes.now c.index_mut.result.now c.refuse_write.new.self c.in-Some.ensures c.index_mut.ensures.value c.refuse_write.ensures.number c.refuse_write.ensures.path)
+          c.refuse_write.ensures.ok c.refuse_write.ensures.err;
+      unchanged = refused_free _ c.refuse-then-is_refused.result c.refuse-then-is_refused.ensures.refused;
+      cause = refused_cause true _ _ c.args.self.now.fuse c.refuse-then-is_refused.new.self c.refuse-then-is_refused.result c.refuse-then-is_refused.ensures.refused by;
+      call = refused_call _ c.args.self.now.fuse c.refuse-then-is_refused.new.self c.refuse-then-is_refused.result c.refuse-then-is_refused.ensures.refused by (inl (c.spend-is_refused.ensures.only c.if-is_refused.true));
+      bound = λ b. b;
+    }
+
+pub returns-then-is_cramped : goal.returns-then-is_cramped
+returns-then-is_cramped c =
+    let spend : IsSpent c.args.self.now.fuse c.spend-is_refused.new.self = record { left = c.spend-is_refused.ensures.left; refusals = c.spend-is_refused.ensures.refusals; lacks = c.spend-is_refused.ensures.lacks; reads = c.spend-is_refused.ensures.reads } in
     let there = length_there _ _ _ _ c.in-Some.ensures c.index.ensures in
     let growth : c.saturating_sub-growth.result ≡ c.args.at + length c.args.bytes.now - length (file_of c.args.self.now.files.items c.args.fd.0).bytes = omega (arith, there, c.saturating_sub-growth.ensures, c.len.ensures) in
-    cramped_cause true _ _ _ _ _ c.lack_space.ensures.fault (c.lack_space.ensures.counted ∙ ap (λ n. min (n + 1) (2 ^ 64 - 1)) c.spend-is_refused.ensures.refusals) (c.lack_space.ensures.lacks ∙ ap (λ n. min (n + 1) (2 ^ 64 - 1)) c.spend-is_refused.ensures.lacks) (ap (λ (v : Vec (String Global) Global). texts_of v.items) (c.lack_space.ensures.reads ∙ c.spend-is_refused.ensures.reads))
-    (subst (LacksRoom (room_in c.args.self.now) (disk_in c.args.self.now) c.args.fd.0) growth (c.if-is_cramped.ensures.yes refl c.args.fd.0 c.in-Some.ensures))
+    record {
+      ok = tt;
+      err = inl refl;
+      unchanged = at_fault c.lack_space.result _ refl;
+      cause = cramped_cause true _ _ _ _ _ c.lack_space.ensures.fault (c.lack_space.ensures.counted ∙ ap (λ n. min (n + 1) (2 ^ 64 - 1)) spend.refusals) (c.lack_space.ensures.lacks ∙ ap (λ n. min (n + 1) (2 ^ 64 - 1)) spend.lacks) (read_alike c.args.self.now.fuse c.lack_space.new.self (c.lack_space.ensures.reads ∙ spend.reads))
+          (subst (LacksRoom (room_in c.args.self.now) (disk_in c.args.self.now) c.args.fd.0) growth (c.if-is_cramped.ensures.yes refl c.args.fd.0 c.in-Some.ensures));
+      call = cramped_call _ c.args.self.now.fuse c.spend-is_refused.new.self c.lack_space.new.self c.lack_space.result c.lack_space.ensures.fault spend c.lack_space.ensures.left (not_blown _ c.spend-is_refused.ensures.blown c.if-is_refused.false);
+      bound = λ b. b;
+    }
 
-pub returns-clause-cause : goal.returns-clause-cause
-returns-clause-cause c =
+pub returns-in_err-write : goal.returns-in_err-write
+returns-in_err-write c =
+    let spend : IsSpent c.args.self.now.fuse c.spend-is_refused.new.self = record { left = c.spend-is_refused.ensures.left; refusals = c.spend-is_refused.ensures.refusals; lacks = c.spend-is_refused.ensures.lacks; reads = c.spend-is_refused.ensures.reads } in
+    let kept = file_kept c.args.self.now.directories.items c.args.self.now.files.items c.args.fd.0 c.in-Some.i c.args.self.now.next c.index_mut-2.result.now c.write.new.self c.in-Some.ensures c.index_mut-2.ensures.value c.in_err-write.ensures.number c.in_err-write.ensures.path c.in_err-write.ensures.err in
+    record {
+      ok = not_ok _ _ c.from_residual.result c.from_residual.ensures.1;
+      err = at_err c.from_residual.result _ (inl kept);
+      unchanged = at_end c.from_residual.result _ kept;
+      cause = memory_cause true _ _ c.args.self.now.fuse c.spend-is_refused.new.self c.from_residual.result c.from_residual.ensures.1 spend;
+      call = memory_call _ c.args.self.now.fuse c.spend-is_refused.new.self c.from_residual.result c.from_residual.ensures.1 spend (not_blown _ c.spend-is_refused.ensures.blown c.if-is_refused.false);
+      bound = λ b. b;
+    }
+
+pub returns : goal.returns
+returns c =
+    let spend : IsSpent c.args.self.now.fuse c.spend-is_refused.new.self = record { left = c.spend-is_refused.ensures.left; refusals = c.spend-is_refused.ensures.refusals; lacks = c.spend-is_refused.ensures.lacks; reads = c.spend-is_refused.ensures.reads } in
     let there = length_there _ _ _ _ c.in-Some.ensures c.index.ensures in
     let growth : c.saturating_sub-growth.result ≡ c.args.at + length c.args.bytes.now - length (file_of c.args.self.now.files.items c.args.fd.0).bytes = omega (arith, there, c.saturating_sub-growth.ensures, c.len.ensures) in
-    taken_cause true _ _ _ _ _ c.spend-is_refused.ensures.refusals c.spend-is_refused.ensures.lacks (ap (λ (v : Vec (String Global) Global). texts_of v.items) c.spend-is_refused.ensures.reads)
-    (number_there c.args.self.now.directories.items _ c.args.self.now.next _ _ c.index_mut-2.result.now c.in-Some.ensures)
-    (λ short. let yes = c.if-is_cramped.ensures.no c.args.fd.0 c.in-Some.ensures (subst (LacksRoom (room_in c.args.self.now) (disk_in c.args.self.now) c.args.fd.0) (sym growth) short) in absurd cc)
-
-pub returns-in_default-refuse_write-clause-err : goal.returns-in_default-refuse_write-clause-err
-returns-in_default-refuse_write-clause-err c = inl (file_kept c.args.self.now.directories.items c.args.self.now.files.items c.args.fd.0 c.in-Some.i c.args.self.now.next c.index_mut.result.now c.refuse_write.new.self c.in-Some.ensures c.index_mut.ensures.value c.in_default-refuse_write.ensures.number c.in_default-refuse_write.ensures.path c.in_default-refuse_write.ensures.err)
-
-pub returns-then-is_refused-clause-err : goal.returns-then-is_refused-clause-err
-returns-then-is_refused-clause-err c = inr (refused_write_noted c.args.self.now.directories.items c.args.self.now.files.items c.args.fd.0 c.in-Some.i c.args.self.now.next c.args.at c.args.bytes.now c.index_mut.result.now c.refuse_write.new.self c.in-Some.ensures c.index_mut.ensures.value c.in-Ok.ensures.number c.in-Ok.ensures.path c.in-Ok.ensures.ok)
-
-pub returns-in_err-write-clause-err : goal.returns-in_err-write-clause-err
-returns-in_err-write-clause-err c = at_err c.from_residual.result _ (inl (file_kept c.args.self.now.directories.items c.args.self.now.files.items c.args.fd.0 c.in-Some.i c.args.self.now.next c.index_mut-2.result.now c.write.new.self c.in-Some.ensures c.index_mut-2.ensures.value c.in_err-write.ensures.number c.in_err-write.ensures.path c.in_err-write.ensures.err))
+    record {
+      ok = file_changed (λ f. after_write f c.args.at c.args.bytes.now (put f.bytes c.args.at c.args.bytes.now)) c.args.self.now.directories.items c.args.self.now.files.items c.args.fd.0 c.in-Some.i c.args.self.now.next c.index_mut-2.result.now c.write.new.self c.in-Some.ensures c.index_mut-2.ensures.value c.in_ok-write.ensures.number c.in_ok-write.ensures.path c.in_ok-write.ensures.ok;
+      err = tt;
+      unchanged = tt;
+      cause = call_cause true _ _ c.args.self.now.fuse c.spend-is_refused.new.self _ spend (number_there c.args.self.now.directories.items _ c.args.self.now.next _ _ c.index_mut-2.result.now c.in-Some.ensures)
+          (λ short. let yes = c.if-is_cramped.ensures.no c.args.fd.0 c.in-Some.ensures (subst (LacksRoom (room_in c.args.self.now) (disk_in c.args.self.now) c.args.fd.0) (sym growth) short) in absurd cc);
+      call = one_call _ c.args.self.now.fuse c.spend-is_refused.new.self _ spend (not_blown _ c.spend-is_refused.ensures.blown c.if-is_refused.false) (λ x. absurd cc) (λ long. absurd (omega (arith, c.len.ensures)));
+      bound = λ b. b;
+    }
