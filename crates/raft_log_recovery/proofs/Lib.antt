@@ -3,6 +3,7 @@ pub mod DirectoryLemmas
 pub mod ReadLemmas
 pub mod RepairLemmas
 pub mod ReplayLemmas
+pub mod EarlyLemmas
 pub mod EndLemmas
 pub mod QueueLemmas
 pub mod TurnLemmas

@@ -12,6 +12,9 @@ use Rattle.raft_log_pipe.proofs.CausedLemmas.{call_cause, exit_cause}
 use Rattle.raft_log_recovery.specs.Caused.{IsRefusal}
 use Rattle.raft_log_recovery.specs.Queue.{path_of}
 use Rattle.raft_log_recovery.proofs.CausedLemmas.{refused_io}
+use Rattle.std.proofs.Common.{refl}
+use Rattle.raft_log_disk.proofs.RefusalLemmas.{no_more_same}
+use Rattle.raft_log_pipe.proofs.EndLemmas.{not_given}
 use Rattle.raft_log_recovery.proofs.queue.open_file.Goals as goal
 
 pub returns-in_err-fd-clause-cause : goal.returns-in_err-fd-clause-cause
@@ -31,3 +34,27 @@ returns-in_err-fd-clause-cause g c =
     (subst (λ (t : Text). IsTaken {T = Fd} (fd_of d.names t ≡ None) refused (Err c.in_err-fd.field-0.0)) same
     (refused_io Fd gone free ⊥ a b c.in_err-fd.field-0.0 (call_cause Fd Fd gone ⊥ a b c.in_err-fd.field-0.0 c.in_err-fd.ensures.cause)
     (λ none. taken_call gone ⊥ ⊥ free a b (Err c.in_err-fd.field-0.0) (λ x. x) none c.in_err-fd.ensures.cause c.in_err-fd.ensures.call)))
+
+pub returns-in_err-path-clause-ok : goal.returns-in_err-path-clause-ok
+returns-in_err-path-clause-ok g c = not_given _ _ c.from_residual.result c.from_residual.ensures.1
+
+pub returns-in_err-path-clause-kept : goal.returns-in_err-path-clause-kept
+returns-in_err-path-clause-kept g c = refl
+
+pub returns-in_err-path-clause-later : goal.returns-in_err-path-clause-later
+returns-in_err-path-clause-later g c = no_more_same _ _
+
+pub returns-in_err-fd-clause-ok : goal.returns-in_err-fd-clause-ok
+returns-in_err-fd-clause-ok g c = not_given _ _ c.from_residual-in_err-fd.result c.from_residual-in_err-fd.ensures.1
+
+pub returns-in_err-fd-clause-kept : goal.returns-in_err-fd-clause-kept
+returns-in_err-fd-clause-kept g c = c.in_err-fd.ensures.kept
+
+pub returns-clause-kept : goal.returns-clause-kept
+returns-clause-kept g c = c.in_ok-fd.ensures.kept
+
+pub returns-clause-corrupt : goal.returns-clause-corrupt
+returns-clause-corrupt g c = λ f e. absurd cc
+
+pub returns-clause-cause : goal.returns-clause-cause
+returns-clause-cause g c = tt

@@ -21,6 +21,8 @@ use Rattle.raft_log_recovery.specs.Caused.{AnyUnreadable, AreFilesRefused, IsMis
 use Rattle.raft_log_recovery.specs.Queue.{IsFileOf, path_of}
 use Rattle.raft_log_pipe.proofs.CausedLemmas.{caused_for, told_cause}
 use Rattle.raft_log_recovery.proofs.CausedLemmas.{at_in, recovery_for, refusal_then, unreadable_at}
+use Rattle.raft_log_pipe.proofs.EndLemmas.{not_given}
+use Rattle.raft_log_recovery.proofs.EarlyLemmas.{an_err}
 use Rattle.raft_log_recovery.proofs.queue.recover_each.Goals as goal
 
 pub open_file-requires-clause-seq : goal.open_file-requires-clause-seq
@@ -241,3 +243,42 @@ returns-in_err-push-clause-cause g c =
     let missing : Type 0 = IsMissing (g.F.FileSystem.disk c.args.files.now) (map string_bytes c.args.directories.now) c.args.config.now.queue c.args.names.now in
     told_cause c.from_residual-in_err-push.result Memory (λ (x : Error). AreFilesRefused missing ⊥ (map string_bytes c.args.directories.now) c.args.config.now.queue c.args.names.now (g.F.FileSystem.is_bounded c.args.files.now) (g.F.FileSystem.meter c.args.files.now) (g.F.FileSystem.meter c.recover_file.new.files) x)
     c.from_residual-in_err-push.ensures.1 (inr tt)
+
+pub returns-in_err-fd-clause-ok : goal.returns-in_err-fd-clause-ok
+returns-in_err-fd-clause-ok g c = not_given _ _ c.from_residual.result c.from_residual.ensures.1
+
+pub returns-in_err-fd-clause-replayed : goal.returns-in_err-fd-clause-replayed
+returns-in_err-fd-clause-replayed g c = not_given _ _ c.from_residual.result c.from_residual.ensures.1
+
+pub returns-in_err-fd-clause-refused : goal.returns-in_err-fd-clause-refused
+returns-in_err-fd-clause-refused g c = λ any. an_err _ c.from_residual.result c.from_residual.ensures.1
+
+pub returns-in_err-format-clause-ok : goal.returns-in_err-format-clause-ok
+returns-in_err-format-clause-ok g c = not_given _ _ c.from_residual-in_err-format.result c.from_residual-in_err-format.ensures.1
+
+pub returns-in_err-format-clause-replayed : goal.returns-in_err-format-clause-replayed
+returns-in_err-format-clause-replayed g c = not_given _ _ c.from_residual-in_err-format.result c.from_residual-in_err-format.ensures.1
+
+pub returns-in_err-format-clause-refused : goal.returns-in_err-format-clause-refused
+returns-in_err-format-clause-refused g c = λ any. an_err _ c.from_residual-in_err-format.result c.from_residual-in_err-format.ensures.1
+
+pub returns-in_err-push-clause-ok : goal.returns-in_err-push-clause-ok
+returns-in_err-push-clause-ok g c = not_given _ _ c.from_residual-in_err-push.result c.from_residual-in_err-push.ensures.1
+
+pub returns-in_err-push-clause-replayed : goal.returns-in_err-push-clause-replayed
+returns-in_err-push-clause-replayed g c = not_given _ _ c.from_residual-in_err-push.result c.from_residual-in_err-push.ensures.1
+
+pub returns-in_err-push-clause-refused : goal.returns-in_err-push-clause-refused
+returns-in_err-push-clause-refused g c = λ any. an_err _ c.from_residual-in_err-push.result c.from_residual-in_err-push.ensures.1
+
+pub returns-clause-err : goal.returns-clause-err
+returns-clause-err g c = tt
+
+pub returns-clause-kept : goal.returns-clause-kept
+returns-clause-kept g c = tt
+
+pub returns-clause-cause : goal.returns-clause-cause
+returns-clause-cause g c = tt
+
+pub returns-clause-corrupt : goal.returns-clause-corrupt
+returns-clause-corrupt g c = λ f e. absurd cc

@@ -15,6 +15,7 @@ use Rattle.raft_log_file.specs.declared.batches.OpenFile.{OpenFile}
 use Rattle.raft_log_recovery.specs.Caused.{IsReplayFault}
 use Rattle.raft_log_pipe.proofs.CausedLemmas.{told_cause}
 use Rattle.raft_log_recovery.proofs.CausedLemmas.{open_fault, parse_fault}
+use Rattle.raft_log_pipe.proofs.EndLemmas.{not_given, not_ok}
 use Rattle.raft_log_recovery.proofs.reading.replay_file.Goals as goal
 
 pub returns-in-Err-Corruption-Header-clause-replayed : goal.returns-in-Err-Corruption-Header-clause-replayed
@@ -69,3 +70,51 @@ returns-in_err-fault-clause-err g c =
     let file : OpenFile = record { id = c.args.id; format = c.in-Ok.format; fd = c.build_file_reader-reader.result.fd } in
     told_cause c.from_residual-in_err-fault.result c.in_err-fault.field-0.0 (λ (e : Error). IsReplayFault d m c.args.fd.0 e) c.from_residual-in_err-fault.ensures.1
     (subst (λ (n : ℕ). IsReplayFault d m n c.in_err-fault.field-0.0) fd (c.in_err-fault.ensures.err file c.in_ok-open.ensures.file))
+
+pub returns-in_err-open-clause-replayed : goal.returns-in_err-open-clause-replayed
+returns-in_err-open-clause-replayed g c = not_ok _ _ c.from_residual.result c.from_residual.ensures.1
+
+pub returns-in_err-open-clause-to : goal.returns-in_err-open-clause-to
+returns-in_err-open-clause-to g c = not_given _ _ c.from_residual.result c.from_residual.ensures.1
+
+pub returns-in_err-open-clause-fault : goal.returns-in_err-open-clause-fault
+returns-in_err-open-clause-fault g c = not_given _ _ c.from_residual.result c.from_residual.ensures.1
+
+pub returns-in_err-open-clause-format : goal.returns-in_err-open-clause-format
+returns-in_err-open-clause-format g c = not_given _ _ c.from_residual.result c.from_residual.ensures.1
+
+pub returns-in_err-fault-clause-replayed : goal.returns-in_err-fault-clause-replayed
+returns-in_err-fault-clause-replayed g c = not_ok _ _ c.from_residual-in_err-fault.result c.from_residual-in_err-fault.ensures.1
+
+pub returns-in_err-fault-clause-to : goal.returns-in_err-fault-clause-to
+returns-in_err-fault-clause-to g c = not_given _ _ c.from_residual-in_err-fault.result c.from_residual-in_err-fault.ensures.1
+
+pub returns-in_err-fault-clause-fault : goal.returns-in_err-fault-clause-fault
+returns-in_err-fault-clause-fault g c = not_given _ _ c.from_residual-in_err-fault.result c.from_residual-in_err-fault.ensures.1
+
+pub returns-in_err-fault-clause-format : goal.returns-in_err-fault-clause-format
+returns-in_err-fault-clause-format g c = not_given _ _ c.from_residual-in_err-fault.result c.from_residual-in_err-fault.ensures.1
+
+pub returns-in-Err-clause-to : goal.returns-in-Err-clause-to
+returns-in-Err-clause-to g c = tt
+
+pub returns-in-Err-clause-fault : goal.returns-in-Err-clause-fault
+returns-in-Err-clause-fault g c = tt
+
+pub returns-in-Err-clause-format : goal.returns-in-Err-clause-format
+returns-in-Err-clause-format g c = tt
+
+pub returns-in-Err-clause-replayed : goal.returns-in-Err-clause-replayed
+returns-in-Err-clause-replayed g c = tt
+
+pub returns-in-Err-Corruption-Header-clause-corrupt : goal.returns-in-Err-Corruption-Header-clause-corrupt
+returns-in-Err-Corruption-Header-clause-corrupt g c = λ f e. absurd cc
+
+pub returns-in-Err-Corruption-Header-clause-err : goal.returns-in-Err-Corruption-Header-clause-err
+returns-in-Err-Corruption-Header-clause-err g c = tt
+
+pub returns-clause-corrupt : goal.returns-clause-corrupt
+returns-clause-corrupt g c = λ f e. absurd cc
+
+pub returns-clause-err : goal.returns-clause-err
+returns-clause-err g c = tt

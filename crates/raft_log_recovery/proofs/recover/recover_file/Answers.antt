@@ -12,6 +12,9 @@ use Rattle.raft_log_files.specs.declared.error.Error.{Error}
 use Rattle.raft_log_recovery.specs.Caused.{IsFileFault, IsRefusal}
 use Rattle.raft_log_pipe.proofs.CausedLemmas.{told_cause}
 use Rattle.raft_log_recovery.proofs.CausedLemmas.{all_readable, recovery_for, replay_cause, taken_of}
+use Rattle.raft_log_disk.proofs.RefusalLemmas.{no_more_same}
+use Rattle.raft_log_pipe.proofs.EndLemmas.{not_given, not_ok}
+use Rattle.raft_log_recovery.proofs.EarlyLemmas.{an_err}
 use Rattle.raft_log_recovery.proofs.recover.recover_file.Goals as goal
 
 pub returns-in_err-read-clause-err : goal.returns-in_err-read-clause-err
@@ -67,3 +70,54 @@ returns-in_err-repair_file-clause-taken g c = λ none.
     let a = g.F.FileSystem.meter c.args.files.now in
     taken_of free ⊥ ⊥ (HasOneOf d c.args.fd.0 a.unreadable) a (g.F.FileSystem.meter c.repair_file.new.files) c.from_residual-in_err-repair_file.result none (all_readable free d c.args.fd.0 a none)
     (returns-in_err-repair_file-clause-cause g c)
+
+pub returns-in_err-read-clause-ok : goal.returns-in_err-read-clause-ok
+returns-in_err-read-clause-ok g c = not_ok _ _ c.from_residual.result c.from_residual.ensures.1
+
+pub returns-in_err-read-clause-replayed : goal.returns-in_err-read-clause-replayed
+returns-in_err-read-clause-replayed g c = not_ok _ _ c.from_residual.result c.from_residual.ensures.1
+
+pub returns-in_err-read-clause-format : goal.returns-in_err-read-clause-format
+returns-in_err-read-clause-format g c = not_given _ _ c.from_residual.result c.from_residual.ensures.1
+
+pub returns-in_err-repair_file-clause-ok : goal.returns-in_err-repair_file-clause-ok
+returns-in_err-repair_file-clause-ok g c = not_ok _ _ c.from_residual-in_err-repair_file.result c.from_residual-in_err-repair_file.ensures.1
+
+pub returns-in_err-repair_file-clause-replayed : goal.returns-in_err-repair_file-clause-replayed
+returns-in_err-repair_file-clause-replayed g c = not_ok _ _ c.from_residual-in_err-repair_file.result c.from_residual-in_err-repair_file.ensures.1
+
+pub returns-in_err-repair_file-clause-format : goal.returns-in_err-repair_file-clause-format
+returns-in_err-repair_file-clause-format g c = not_given _ _ c.from_residual-in_err-repair_file.result c.from_residual-in_err-repair_file.ensures.1
+
+pub returns-in_err-read-clause-refused : goal.returns-in_err-read-clause-refused
+returns-in_err-read-clause-refused g c = λ f e no. (an_err _ c.from_residual.result c.from_residual.ensures.1, refl)
+
+pub returns-in_err-read-clause-later : goal.returns-in_err-read-clause-later
+returns-in_err-read-clause-later g c = no_more_same _ _
+
+pub returns-in_err-repair_file-clause-refused : goal.returns-in_err-repair_file-clause-refused
+returns-in_err-repair_file-clause-refused g c = λ f e no. (an_err _ c.from_residual-in_err-repair_file.result c.from_residual-in_err-repair_file.ensures.1, (c.in_err-repair_file.ensures.refused f e no).1)
+
+pub returns-in_err-repair_file-clause-err : goal.returns-in_err-repair_file-clause-err
+returns-in_err-repair_file-clause-err g c = at_err c.from_residual-in_err-repair_file.result _ c.in_err-repair_file.ensures.err
+
+pub returns-in_err-repair_file-clause-later : goal.returns-in_err-repair_file-clause-later
+returns-in_err-repair_file-clause-later g c = c.in_err-repair_file.ensures.later
+
+pub returns-clause-ok : goal.returns-clause-ok
+returns-clause-ok g c = c.in_ok-repair_file.ensures.ok
+
+pub returns-clause-format : goal.returns-clause-format
+returns-clause-format g c = c.in_ok-read.ensures.format
+
+pub returns-clause-err : goal.returns-clause-err
+returns-clause-err g c = tt
+
+pub returns-clause-corrupt : goal.returns-clause-corrupt
+returns-clause-corrupt g c = λ f e. absurd cc
+
+pub returns-clause-later : goal.returns-clause-later
+returns-clause-later g c = c.in_ok-repair_file.ensures.later
+
+pub returns-clause-cause : goal.returns-clause-cause
+returns-clause-cause g c = tt

@@ -14,6 +14,8 @@ use Rattle.raft_log_recovery.specs.Queue.{directories_in, names_in}
 use Rattle.raft_log_recovery.proofs.BothLemmas.{both_holes, both_leave, both_opened, both_pipes, first_leaves, found_still, neither, one_with, two_with}
 use Rattle.raft_log_recovery.proofs.CausedLemmas.{fault_then}
 use Rattle.raft_log_recovery.proofs.CorruptLemmas.{cant_before, passed_on}
+use Rattle.raft_log_pipe.proofs.EndLemmas.{not_given}
+use Rattle.raft_log_recovery.proofs.EarlyLemmas.{an_err}
 use Rattle.raft_log_recovery.proofs.builder.DualPipesBuilder.open_both.Goals as goal
 
 pub open_one-requires-2-clause-found : goal.open_one-requires-2-clause-found
@@ -114,3 +116,33 @@ returns-in_err-two-clause-cause g c =
       fault_then (directories_in c.args.self.now) c.other_of.result (names_in c.args.self.now c.other_of.result) d (g.F.FileSystem.disk y) (g.F.FileSystem.disk new) free (g.F.FileSystem.is_bounded y) a (g.F.FileSystem.meter y) (g.F.FileSystem.meter new) c.in_err-two.field-0.0
           c.open_one.ensures.others.directories c.in_ok-one.ensures.later c.in_err-two.ensures.cause,
     )
+
+pub returns-in_err-one-clause-pipes : goal.returns-in_err-one-clause-pipes
+returns-in_err-one-clause-pipes g c = not_given _ _ c.from_residual.result c.from_residual.ensures.1
+
+pub returns-in_err-one-clause-opened : goal.returns-in_err-one-clause-opened
+returns-in_err-one-clause-opened g c = not_given _ _ c.from_residual.result c.from_residual.ensures.1
+
+pub returns-in_err-one-clause-replayed : goal.returns-in_err-one-clause-replayed
+returns-in_err-one-clause-replayed g c = not_given _ _ c.from_residual.result c.from_residual.ensures.1
+
+pub returns-in_err-one-clause-refused : goal.returns-in_err-one-clause-refused
+returns-in_err-one-clause-refused g c = λ queue any. an_err _ c.from_residual.result c.from_residual.ensures.1
+
+pub returns-in_err-one-clause-holes : goal.returns-in_err-one-clause-holes
+returns-in_err-one-clause-holes g c = λ none. not_given _ _ c.from_residual.result c.from_residual.ensures.1
+
+pub returns-in_err-two-clause-pipes : goal.returns-in_err-two-clause-pipes
+returns-in_err-two-clause-pipes g c = not_given _ _ c.from_residual-in_err-two.result c.from_residual-in_err-two.ensures.1
+
+pub returns-in_err-two-clause-opened : goal.returns-in_err-two-clause-opened
+returns-in_err-two-clause-opened g c = not_given _ _ c.from_residual-in_err-two.result c.from_residual-in_err-two.ensures.1
+
+pub returns-in_err-two-clause-replayed : goal.returns-in_err-two-clause-replayed
+returns-in_err-two-clause-replayed g c = not_given _ _ c.from_residual-in_err-two.result c.from_residual-in_err-two.ensures.1
+
+pub returns-in_err-two-clause-refused : goal.returns-in_err-two-clause-refused
+returns-in_err-two-clause-refused g c = λ queue any. an_err _ c.from_residual-in_err-two.result c.from_residual-in_err-two.ensures.1
+
+pub returns-in_err-two-clause-holes : goal.returns-in_err-two-clause-holes
+returns-in_err-two-clause-holes g c = λ none. not_given _ _ c.from_residual-in_err-two.result c.from_residual-in_err-two.ensures.1

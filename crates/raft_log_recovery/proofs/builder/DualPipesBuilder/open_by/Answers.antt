@@ -32,6 +32,9 @@ use Rattle.raft_log_recovery.specs.Caused.{AnyUnreadable, IsFirstBarred, IsFirst
 use Rattle.raft_log_pipe.proofs.CausedLemmas.{lacks_before, told_cause}
 use Rattle.raft_log_recovery.proofs.HoleLemmas.{holes_created, holes_opened}
 use Rattle.raft_log_recovery.proofs.CausedLemmas.{first_barred, none_unreadable, recovery_caused, recovery_for, refusal_for, refusal_then, refused_pipe, taken_of}
+use Rattle.raft_log_disk.proofs.CauseLemmas.{at_err}
+use Rattle.raft_log_pipe.proofs.EndLemmas.{not_given}
+use Rattle.raft_log_recovery.proofs.EarlyLemmas.{an_err}
 use Rattle.raft_log_recovery.proofs.builder.DualPipesBuilder.open_by.Goals as goal
 
 pub returns-then-not-are_plain-clause-left : goal.returns-then-not-are_plain-clause-left
@@ -446,3 +449,123 @@ returns-clause-taken g c = λ none.
     let a = g.F.FileSystem.meter c.args.files.now in
     taken_of free (IsFirstLacking directories queue names (g.F.FileSystem.disk c.args.files.now)) (IsFirstBarred directories queue names (g.F.FileSystem.disk c.open.new.files)) (AnyUnreadable directories queue names a) a (g.F.FileSystem.meter c.open.new.files)
     c.open.result none (none_unreadable free directories queue names a none) (returns-clause-cause g c)
+
+pub returns-in_err-recovered-clause-pipe : goal.returns-in_err-recovered-clause-pipe
+returns-in_err-recovered-clause-pipe g c = not_given _ _ c.from_residual.result c.from_residual.ensures.1
+
+pub returns-in_err-recovered-clause-queue : goal.returns-in_err-recovered-clause-queue
+returns-in_err-recovered-clause-queue g c = not_given _ _ c.from_residual.result c.from_residual.ensures.1
+
+pub returns-in_err-recovered-clause-paths : goal.returns-in_err-recovered-clause-paths
+returns-in_err-recovered-clause-paths g c = not_given _ _ c.from_residual.result c.from_residual.ensures.1
+
+pub returns-in_err-recovered-clause-settings : goal.returns-in_err-recovered-clause-settings
+returns-in_err-recovered-clause-settings g c = not_given _ _ c.from_residual.result c.from_residual.ensures.1
+
+pub returns-in_err-recovered-clause-alone : goal.returns-in_err-recovered-clause-alone
+returns-in_err-recovered-clause-alone g c = not_given _ _ c.from_residual.result c.from_residual.ensures.1
+
+pub returns-in_err-recovered-clause-replayed : goal.returns-in_err-recovered-clause-replayed
+returns-in_err-recovered-clause-replayed g c = not_given _ _ c.from_residual.result c.from_residual.ensures.1
+
+pub returns-in_err-recovered-clause-holes : goal.returns-in_err-recovered-clause-holes
+returns-in_err-recovered-clause-holes g c = not_given _ _ c.from_residual.result c.from_residual.ensures.1
+
+pub returns-in_err-recovered-clause-refused : goal.returns-in_err-recovered-clause-refused
+returns-in_err-recovered-clause-refused g c = λ any. an_err _ c.from_residual.result c.from_residual.ensures.1
+
+pub returns-in_err-recovered-clause-aligned : goal.returns-in_err-recovered-clause-aligned
+returns-in_err-recovered-clause-aligned g c = λ any. an_err _ c.from_residual.result c.from_residual.ensures.1
+
+pub returns-in_err-paths-clause-pipe : goal.returns-in_err-paths-clause-pipe
+returns-in_err-paths-clause-pipe g c = not_given _ _ c.from_residual-in_err-paths.result c.from_residual-in_err-paths.ensures.1
+
+pub returns-in_err-paths-clause-queue : goal.returns-in_err-paths-clause-queue
+returns-in_err-paths-clause-queue g c = not_given _ _ c.from_residual-in_err-paths.result c.from_residual-in_err-paths.ensures.1
+
+pub returns-in_err-paths-clause-paths : goal.returns-in_err-paths-clause-paths
+returns-in_err-paths-clause-paths g c = not_given _ _ c.from_residual-in_err-paths.result c.from_residual-in_err-paths.ensures.1
+
+pub returns-in_err-paths-clause-settings : goal.returns-in_err-paths-clause-settings
+returns-in_err-paths-clause-settings g c = not_given _ _ c.from_residual-in_err-paths.result c.from_residual-in_err-paths.ensures.1
+
+pub returns-in_err-paths-clause-alone : goal.returns-in_err-paths-clause-alone
+returns-in_err-paths-clause-alone g c = not_given _ _ c.from_residual-in_err-paths.result c.from_residual-in_err-paths.ensures.1
+
+pub returns-in_err-paths-clause-replayed : goal.returns-in_err-paths-clause-replayed
+returns-in_err-paths-clause-replayed g c = not_given _ _ c.from_residual-in_err-paths.result c.from_residual-in_err-paths.ensures.1
+
+pub returns-in_err-paths-clause-holes : goal.returns-in_err-paths-clause-holes
+returns-in_err-paths-clause-holes g c = not_given _ _ c.from_residual-in_err-paths.result c.from_residual-in_err-paths.ensures.1
+
+pub returns-in_err-paths-clause-refused : goal.returns-in_err-paths-clause-refused
+returns-in_err-paths-clause-refused g c = λ any. an_err _ c.from_residual-in_err-paths.result c.from_residual-in_err-paths.ensures.1
+
+pub returns-in_err-paths-clause-aligned : goal.returns-in_err-paths-clause-aligned
+returns-in_err-paths-clause-aligned g c = λ any. an_err _ c.from_residual-in_err-paths.result c.from_residual-in_err-paths.ensures.1
+
+pub returns-then-not-are_plain-clause-pipe : goal.returns-then-not-are_plain-clause-pipe
+returns-then-not-are_plain-clause-pipe g c = tt
+
+pub returns-then-not-are_plain-clause-queue : goal.returns-then-not-are_plain-clause-queue
+returns-then-not-are_plain-clause-queue g c = tt
+
+pub returns-then-not-are_plain-clause-paths : goal.returns-then-not-are_plain-clause-paths
+returns-then-not-are_plain-clause-paths g c = tt
+
+pub returns-then-not-are_plain-clause-settings : goal.returns-then-not-are_plain-clause-settings
+returns-then-not-are_plain-clause-settings g c = tt
+
+pub returns-then-not-are_plain-clause-alone : goal.returns-then-not-are_plain-clause-alone
+returns-then-not-are_plain-clause-alone g c = tt
+
+pub returns-then-not-are_plain-clause-replayed : goal.returns-then-not-are_plain-clause-replayed
+returns-then-not-are_plain-clause-replayed g c = tt
+
+pub returns-then-not-are_plain-clause-holes : goal.returns-then-not-are_plain-clause-holes
+returns-then-not-are_plain-clause-holes g c = tt
+
+pub returns-then-not-are_plain-clause-refused : goal.returns-then-not-are_plain-clause-refused
+returns-then-not-are_plain-clause-refused g c = λ any. refl
+
+pub returns-then-not-are_plain-clause-aligned : goal.returns-then-not-are_plain-clause-aligned
+returns-then-not-are_plain-clause-aligned g c = λ any. refl
+
+pub returns-in_err-recovered-clause-only : goal.returns-in_err-recovered-clause-only
+returns-in_err-recovered-clause-only g c = λ some. c.recover_in.ensures.only
+
+pub returns-in_err-recovered-clause-later : goal.returns-in_err-recovered-clause-later
+returns-in_err-recovered-clause-later g c = c.recover_in.ensures.later
+
+pub returns-in_err-recovered-clause-kept : goal.returns-in_err-recovered-clause-kept
+returns-in_err-recovered-clause-kept g c = at_err c.from_residual.result _ c.in_err-recovered.ensures.kept
+
+pub returns-then-not-are_plain-clause-only : goal.returns-then-not-are_plain-clause-only
+returns-then-not-are_plain-clause-only g c = λ some. c.recover_in.ensures.only
+
+pub returns-then-not-are_plain-clause-later : goal.returns-then-not-are_plain-clause-later
+returns-then-not-are_plain-clause-later g c = c.recover_in.ensures.later
+
+pub returns-then-not-are_plain-clause-kept : goal.returns-then-not-are_plain-clause-kept
+returns-then-not-are_plain-clause-kept g c = λ before name behind is refused. absurd (false≢true (c.in_ok-recovered.ensures.refused (before, name, behind, is, refused)))
+
+pub returns-in_err-paths-clause-only : goal.returns-in_err-paths-clause-only
+returns-in_err-paths-clause-only g c = λ some. c.recover_in.ensures.only
+
+pub returns-in_err-paths-clause-later : goal.returns-in_err-paths-clause-later
+returns-in_err-paths-clause-later g c = c.recover_in.ensures.later
+
+pub returns-in_err-paths-clause-kept : goal.returns-in_err-paths-clause-kept
+returns-in_err-paths-clause-kept g c = at_err c.from_residual-in_err-paths.result _ (λ before name behind is refused. absurd (false≢true (c.in_ok-recovered.ensures.refused (before, name, behind, is, refused))))
+
+pub returns-then-is_empty-clause-kept : goal.returns-then-is_empty-clause-kept
+returns-then-is_empty-clause-kept g c = at_err c.create.result _ (λ before name behind is refused. absurd (false≢true (c.in_ok-recovered.ensures.refused (before, name, behind, is, refused))))
+
+pub returns-then-is_empty-clause-refused : goal.returns-then-is_empty-clause-refused
+returns-then-is_empty-clause-refused g c = λ any. absurd (false≢true (c.in_ok-recovered.ensures.refused any))
+
+pub returns-clause-kept : goal.returns-clause-kept
+returns-clause-kept g c = at_err c.open.result _ (λ before name behind is refused. absurd (false≢true (c.in_ok-recovered.ensures.refused (before, name, behind, is, refused))))
+
+pub returns-clause-refused : goal.returns-clause-refused
+returns-clause-refused g c = λ any. absurd (false≢true (c.in_ok-recovered.ensures.refused any))

@@ -8,12 +8,14 @@ use Rattle.raft_log_recovery.specs.Both.{CantBeOpened, IsEitherFault}
 use Rattle.raft_log_recovery.proofs.BothLemmas.{found_of, with_both}
 use Rattle.raft_log_recovery.proofs.CausedLemmas.{either_taken}
 use Rattle.raft_log_recovery.proofs.CorruptLemmas.{passed_on}
-use Rattle.std.proofs.Common.{List, map, inr, sym, subst, ◌∙◌}
+use Rattle.std.proofs.Common.{List, map, inr, sym, subst}
 use Rattle.std.specs.String.{string_bytes}
 use Rattle.raft_log_disk.specs.Text.{Text}
 use Rattle.raft_log_records.specs.declared.file_id.LogQueue.TheVariants.{Append}
 use Rattle.raft_log_recovery.specs.Both.{KeepsFound}
 use Rattle.raft_log_recovery.proofs.KeptLemmas.{holes_as, opened_as, with_as}
+use Rattle.raft_log_pipe.proofs.EndLemmas.{not_given}
+use Rattle.raft_log_recovery.proofs.EarlyLemmas.{an_err}
 use Rattle.raft_log_recovery.proofs.builder.DualPipesBuilder.recover_by.Goals as goal
 
 pub open_both-requires-clause-one : goal.open_both-requires-clause-one
@@ -74,3 +76,39 @@ returns-clause-reserved g c =
 
 pub returns-clause-holes : goal.returns-clause-holes
 returns-clause-holes g c = holes_as c.args.self.now (g.F.FileSystem.disk c.args.files.now) (g.F.FileSystem.disk c.open_both.new.files) c.in_ok-pipes.pipes c.with_found.new.pipes c.in_ok-with_found.ensures.append c.in_ok-with_found.ensures.rewrite (c.in_ok-pipes.ensures.holes c.new_target-machine.ensures)
+
+pub returns-in_err-pipes-clause-pipes : goal.returns-in_err-pipes-clause-pipes
+returns-in_err-pipes-clause-pipes g c = not_given _ _ c.from_residual.result c.from_residual.ensures.1
+
+pub returns-in_err-pipes-clause-opened : goal.returns-in_err-pipes-clause-opened
+returns-in_err-pipes-clause-opened g c = not_given _ _ c.from_residual.result c.from_residual.ensures.1
+
+pub returns-in_err-pipes-clause-replayed : goal.returns-in_err-pipes-clause-replayed
+returns-in_err-pipes-clause-replayed g c = not_given _ _ c.from_residual.result c.from_residual.ensures.1
+
+pub returns-in_err-pipes-clause-reserved : goal.returns-in_err-pipes-clause-reserved
+returns-in_err-pipes-clause-reserved g c = not_given _ _ c.from_residual.result c.from_residual.ensures.1
+
+pub returns-in_err-pipes-clause-holes : goal.returns-in_err-pipes-clause-holes
+returns-in_err-pipes-clause-holes g c = not_given _ _ c.from_residual.result c.from_residual.ensures.1
+
+pub returns-in_err-pipes-clause-refused : goal.returns-in_err-pipes-clause-refused
+returns-in_err-pipes-clause-refused g c = λ queue any. an_err _ c.from_residual.result c.from_residual.ensures.1
+
+pub returns-in_err-with_found-clause-pipes : goal.returns-in_err-with_found-clause-pipes
+returns-in_err-with_found-clause-pipes g c = not_given _ _ c.from_residual-in_err-with_found.result c.from_residual-in_err-with_found.ensures.1
+
+pub returns-in_err-with_found-clause-opened : goal.returns-in_err-with_found-clause-opened
+returns-in_err-with_found-clause-opened g c = not_given _ _ c.from_residual-in_err-with_found.result c.from_residual-in_err-with_found.ensures.1
+
+pub returns-in_err-with_found-clause-replayed : goal.returns-in_err-with_found-clause-replayed
+returns-in_err-with_found-clause-replayed g c = not_given _ _ c.from_residual-in_err-with_found.result c.from_residual-in_err-with_found.ensures.1
+
+pub returns-in_err-with_found-clause-reserved : goal.returns-in_err-with_found-clause-reserved
+returns-in_err-with_found-clause-reserved g c = not_given _ _ c.from_residual-in_err-with_found.result c.from_residual-in_err-with_found.ensures.1
+
+pub returns-in_err-with_found-clause-holes : goal.returns-in_err-with_found-clause-holes
+returns-in_err-with_found-clause-holes g c = not_given _ _ c.from_residual-in_err-with_found.result c.from_residual-in_err-with_found.ensures.1
+
+pub returns-in_err-with_found-clause-refused : goal.returns-in_err-with_found-clause-refused
+returns-in_err-with_found-clause-refused g c = λ queue any. an_err _ c.from_residual-in_err-with_found.result c.from_residual-in_err-with_found.ensures.1
