@@ -2,3 +2,4 @@ pub mod PlaceLemmas
 pub mod RisingLemmas
 pub mod CoherentLemmas
 pub mod EachOnceLemmas
+pub mod StepLemmas
