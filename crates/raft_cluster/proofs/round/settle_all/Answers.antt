@@ -98,3 +98,9 @@ returns g c =
     let had = subst Q none (at.invariant.4 ids before (subst R (sym same) round) (subst S (sym same) ahead)) in
     let T : List ClusterEvent → Type 0 = λ es. TakesTurns acts first past before es at.count nodes answers (frames_of at.sent) at.history.items in
     subst T (done ∙ same) (at_last acts ids first past all before at.yielded at.count nodes answers at.history.items (frames_of at.sent) had)
+
+pub push_reserved-requires : goal.push_reserved-requires
+push_reserved-requires g c =
+    let room = c.loop-event.invariant.3 in
+    let steps : into_iter_items c.loop-event.event-iterator ≡ c.in-Some.event ∷ into_iter_items c.next.new.self = c.in-Some.ensures.steps.0 in
+    let short = ap length steps in omega arith

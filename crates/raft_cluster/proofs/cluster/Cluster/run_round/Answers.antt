@@ -4,8 +4,8 @@ use Rattle.raft_sent_frames.specs.Frames.{frames_of}
 use Rattle.raft_cluster_events.specs.declared.event.ClusterEvent.{ClusterEvent}
 use Rattle.raft_cluster_events.specs.declared.outcome.Recorded.{Recorded}
 use Rattle.raft_cluster.specs.declared.slot.Slot.{Slot}
-use Rattle.raft_cluster.specs.Cluster.{ClusterValue}
-use Rattle.raft_cluster.specs.Round.{AreAhead, Rounds, TakesTurns, is_round}
+use Rattle.raft_cluster.specs.Cluster.{ClusterValue, IsReached}
+use Rattle.raft_cluster.specs.Round.{AreAhead, Rounds, TakesTurns, are_idle, is_round}
 use Rattle.raft_cluster.proofs.ClusterLemmas.{front_of}
 use Rattle.raft_cluster.proofs.RoundLemmas.{reached_on, rounds_so}
 use Rattle.raft_cluster.proofs.cluster.Cluster.run_round.Goals as goal
@@ -66,3 +66,19 @@ returns-clause-runs g c =
     let is : ClusterValue g.row.N.Denot = record { nodes = nodes'; sent = new.sent; history = new.history.items } in
     let V : ClusterValue g.row.N.Denot → Type 0 = λ v. Rounds acts v events c.settle_all-count.result is in
     subst V c.self.view_is (rounds_so acts was is events c.settle_all-count.result answers' turns)
+
+pub work_all-requires-clause-ids : goal.work_all-requires-clause-ids
+work_all-requires-clause-ids g c =
+    let ids : List (Slot g.row.N.Denot g.row.N-Machine.Denot g.row.N-Settings.Denot) → List ℕ = map (λ slot. g.N.ClusterNode.acts.id slot.node) in
+    λ κs within. c.as_slice-3.ensures.value ∙ c.in-Ok.ensures ∙ ap ids (c.as_slice-2.ensures.value ∙ sym c.as_mut_slice.ensures.value)
+
+pub work_all-requires-clause-idle : goal.work_all-requires-clause-idle
+work_all-requires-clause-idle g c =
+    let P : List (Slot g.row.N.Denot g.row.N-Machine.Denot g.row.N-Settings.Denot) → Type 0 = λ slots. are_idle (map (λ slot. slot.answer) slots) in
+    λ κs within. subst P (sym c.as_mut_slice.ensures.value) c.self.invariant.1
+
+pub invariant_of-self : goal.invariant_of-self
+invariant_of-self g c =
+    let old = c.self.inside in
+    let P : List Recorded → Type 0 = λ h. IsReached g.N.ClusterNode.acts (map (λ slot. slot.node) old.slots.items) (frames_of old.sent) h in
+    (subst P (sym c.reserve.ensures.items) c.self.invariant.0, c.self.invariant.1)
