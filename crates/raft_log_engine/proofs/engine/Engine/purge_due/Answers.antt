@@ -81,3 +81,132 @@ returns-in-Err-clause-expired g c = λ unmarked large. tt
 -- the fault is another one than that of the arm before
 pub returns-in-Err-clause-stops : goal.returns-in-Err-clause-stops
 returns-in-Err-clause-stops g c = ⊎_elim (λ same. absurd (c.in-Err.in-Err-own'.refused-1.1 (ap (tag_of the_type) same))) (λ stopped. stopped) c.in-Err.ensures.stops
+
+-- ---- as the cleaning left it
+
+pub returns-in-Ok-clean_by-clause-rising : goal.returns-in-Ok-clean_by-clause-rising
+returns-in-Ok-clean_by-clause-rising g c = c.in-Ok-clean_by.ensures.rising
+
+pub returns-in-Ok-clean_by-clause-there : goal.returns-in-Ok-clean_by-clause-there
+returns-in-Ok-clean_by-clause-there g c = c.in-Ok-clean_by.ensures.there
+
+pub returns-in-Ok-clean_by-clause-answers : goal.returns-in-Ok-clean_by-clause-answers
+returns-in-Ok-clean_by-clause-answers g c = c.in-Ok-clean_by.ensures.answers
+
+pub returns-in-Ok-clean_by-clause-paths : goal.returns-in-Ok-clean_by-clause-paths
+returns-in-Ok-clean_by-clause-paths g c = c.in-Ok-clean_by.ensures.paths
+
+pub returns-in-Ok-clean_by-clause-set : goal.returns-in-Ok-clean_by-clause-set
+returns-in-Ok-clean_by-clause-set g c = c.in-Ok-clean_by.ensures.set
+
+pub returns-in-Ok-clean_by-clause-alone : goal.returns-in-Ok-clean_by-clause-alone
+returns-in-Ok-clean_by-clause-alone g c = c.in-Ok-clean_by.ensures.alone
+
+pub returns-in-Ok-clean_by-clause-opens_still : goal.returns-in-Ok-clean_by-clause-opens_still
+returns-in-Ok-clean_by-clause-opens_still g c = c.in-Ok-clean_by.ensures.opens_still
+
+pub returns-in-Ok-clean_by-clause-opens_in_tail : goal.returns-in-Ok-clean_by-clause-opens_in_tail
+returns-in-Ok-clean_by-clause-opens_in_tail g c = c.in-Ok-clean_by.ensures.opens_in_tail
+
+pub returns-in-Ok-clean_by-clause-barrier : goal.returns-in-Ok-clean_by-clause-barrier
+returns-in-Ok-clean_by-clause-barrier g c = c.in-Ok-clean_by.ensures.barrier
+
+pub returns-in-Ok-clean_by-clause-threshold : goal.returns-in-Ok-clean_by-clause-threshold
+returns-in-Ok-clean_by-clause-threshold g c = c.in-Ok-clean_by.ensures.threshold
+
+pub returns-in-Ok-clean_by-clause-reads : goal.returns-in-Ok-clean_by-clause-reads
+returns-in-Ok-clean_by-clause-reads g c = c.in-Ok-clean_by.ensures.reads
+
+pub returns-in-Ok-clean_by-clause-later : goal.returns-in-Ok-clean_by-clause-later
+returns-in-Ok-clean_by-clause-later g c = c.in-Ok-clean_by.ensures.later
+
+pub returns-in-Ok-clean_by-clause-sound : goal.returns-in-Ok-clean_by-clause-sound
+returns-in-Ok-clean_by-clause-sound g c = λ sound. c.in-Ok-clean_by.ensures.sound
+
+pub returns-in-Ok-clean_by-clause-stops : goal.returns-in-Ok-clean_by-clause-stops
+returns-in-Ok-clean_by-clause-stops g c = tt
+
+-- ---- as a refused cleaning left it
+
+pub returns-in-Err-clause-paths : goal.returns-in-Err-clause-paths
+returns-in-Err-clause-paths g c = c.in-Err.ensures.paths
+
+pub returns-in-Err-clause-set : goal.returns-in-Err-clause-set
+returns-in-Err-clause-set g c = c.in-Err.ensures.set
+
+pub returns-in-Err-clause-opens_still : goal.returns-in-Err-clause-opens_still
+returns-in-Err-clause-opens_still g c = c.in-Err.ensures.opens_still
+
+pub returns-in-Err-clause-opens_in_tail : goal.returns-in-Err-clause-opens_in_tail
+returns-in-Err-clause-opens_in_tail g c = c.in-Err.ensures.opens_in_tail
+
+pub returns-in-Err-clause-threshold : goal.returns-in-Err-clause-threshold
+returns-in-Err-clause-threshold g c = c.in-Err.ensures.threshold
+
+pub returns-in-Err-clause-reads : goal.returns-in-Err-clause-reads
+returns-in-Err-clause-reads g c = c.in-Err.ensures.reads
+
+pub returns-in-Err-clause-later : goal.returns-in-Err-clause-later
+returns-in-Err-clause-later g c = c.in-Err.ensures.later
+
+pub returns-in-Err-clause-rising : goal.returns-in-Err-clause-rising
+returns-in-Err-clause-rising g c = tt
+
+pub returns-in-Err-clause-there : goal.returns-in-Err-clause-there
+returns-in-Err-clause-there g c = tt
+
+pub returns-in-Err-clause-answers : goal.returns-in-Err-clause-answers
+returns-in-Err-clause-answers g c = tt
+
+pub returns-in-Err-clause-barrier : goal.returns-in-Err-clause-barrier
+returns-in-Err-clause-barrier g c = tt
+
+pub returns-in-Err-clause-sound : goal.returns-in-Err-clause-sound
+returns-in-Err-clause-sound g c = λ sound. tt
+
+pub returns-in-Err-clause-alone : goal.returns-in-Err-clause-alone
+returns-in-Err-clause-alone g c = λ alone. tt
+
+pub returns-in-Err-clause-held : goal.returns-in-Err-clause-held
+returns-in-Err-clause-held g c = λ held. tt
+
+-- ---- nothing was cleaned
+
+pub returns-in-Err-Marked-clause-paths : goal.returns-in-Err-Marked-clause-paths
+returns-in-Err-Marked-clause-paths g c = c.clean_by.ensures.paths
+
+pub returns-in-Err-Marked-clause-set : goal.returns-in-Err-Marked-clause-set
+returns-in-Err-Marked-clause-set g c = c.clean_by.ensures.set
+
+pub returns-in-Err-Marked-clause-opens_still : goal.returns-in-Err-Marked-clause-opens_still
+returns-in-Err-Marked-clause-opens_still g c = c.clean_by.ensures.opens_still
+
+pub returns-in-Err-Marked-clause-opens_in_tail : goal.returns-in-Err-Marked-clause-opens_in_tail
+returns-in-Err-Marked-clause-opens_in_tail g c = c.clean_by.ensures.opens_in_tail
+
+pub returns-in-Err-Marked-clause-threshold : goal.returns-in-Err-Marked-clause-threshold
+returns-in-Err-Marked-clause-threshold g c = c.clean_by.ensures.threshold
+
+pub returns-in-Err-Marked-clause-reads : goal.returns-in-Err-Marked-clause-reads
+returns-in-Err-Marked-clause-reads g c = c.clean_by.ensures.reads
+
+pub returns-in-Err-Marked-clause-later : goal.returns-in-Err-Marked-clause-later
+returns-in-Err-Marked-clause-later g c = c.clean_by.ensures.later
+
+pub returns-in-Err-Marked-clause-stops : goal.returns-in-Err-Marked-clause-stops
+returns-in-Err-Marked-clause-stops g c = tt
+
+pub returns-in-Err-Marked-clause-answers : goal.returns-in-Err-Marked-clause-answers
+returns-in-Err-Marked-clause-answers g c = 
+    let same = c.clean_by.ensures.marked (c.in-Err-Marked.is ∙ ap (λ (fault : EngineFault). Err fault) c.in-Err-Marked.field-0-is) in
+    rw same refl
+
+pub returns-in-Err-Marked-clause-sound : goal.returns-in-Err-Marked-clause-sound
+returns-in-Err-Marked-clause-sound g c = 
+    let same = c.clean_by.ensures.marked (c.in-Err-Marked.is ∙ ap (λ (fault : EngineFault). Err fault) c.in-Err-Marked.field-0-is) in
+    λ sound. rw same sound
+
+pub returns-in-Err-Marked-clause-few : goal.returns-in-Err-Marked-clause-few
+returns-in-Err-Marked-clause-few g c = 
+    let same = c.clean_by.ensures.marked (c.in-Err-Marked.is ∙ ap (λ (fault : EngineFault). Err fault) c.in-Err-Marked.field-0-is) in
+    λ going appends rewrites. (c.new-none.ensures.items, same)

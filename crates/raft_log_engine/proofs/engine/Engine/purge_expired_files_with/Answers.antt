@@ -34,3 +34,74 @@ returns-clause-unheard g c = elim c.match-purge_due.branch [
   | in-Ok w ↦ no_err _ c.match-purge_due.result w.in-Ok.groups w.result-is
   | in-Err w ↦ when_err c.match-purge_due.result w.listeners-is
 ]
+
+-- ---- as without listeners
+
+pub returns-clause-paths : goal.returns-clause-paths
+returns-clause-paths g c = c.purge_due.ensures.paths
+
+pub returns-clause-set : goal.returns-clause-set
+returns-clause-set g c = c.purge_due.ensures.set
+
+pub returns-clause-opens_still : goal.returns-clause-opens_still
+returns-clause-opens_still g c = c.purge_due.ensures.opens_still
+
+pub returns-clause-opens_in_tail : goal.returns-clause-opens_in_tail
+returns-clause-opens_in_tail g c = c.purge_due.ensures.opens_in_tail
+
+pub returns-clause-threshold : goal.returns-clause-threshold
+returns-clause-threshold g c = c.purge_due.ensures.threshold
+
+pub returns-clause-reads : goal.returns-clause-reads
+returns-clause-reads g c = c.purge_due.ensures.reads
+
+pub returns-clause-later : goal.returns-clause-later
+returns-clause-later g c = c.purge_due.ensures.later
+
+pub returns-clause-rising : goal.returns-clause-rising
+returns-clause-rising g c = elim c.match-purge_due.branch [
+  | in-Ok w ↦ rw w.result-is w.in-Ok.ensures.rising
+  | in-Err w ↦ rw w.result-is tt
+]
+
+pub returns-clause-there : goal.returns-clause-there
+returns-clause-there g c = elim c.match-purge_due.branch [
+  | in-Ok w ↦ rw w.result-is w.in-Ok.ensures.there
+  | in-Err w ↦ rw w.result-is tt
+]
+
+pub returns-clause-answers : goal.returns-clause-answers
+returns-clause-answers g c = elim c.match-purge_due.branch [
+  | in-Ok w ↦ when_ok c.match-purge_due.result w.in-Ok.ensures.answers
+  | in-Err w ↦ none_of_err _ c.match-purge_due.result w.in-Err.fault w.result-is
+]
+
+pub returns-clause-sound : goal.returns-clause-sound
+returns-clause-sound g c = λ before. elim c.match-purge_due.branch [
+  | in-Ok w ↦ when_ok c.match-purge_due.result (w.in-Ok.ensures.sound before)
+  | in-Err w ↦ none_of_err _ c.match-purge_due.result w.in-Err.fault w.result-is
+]
+
+pub returns-clause-alone : goal.returns-clause-alone
+returns-clause-alone g c = λ before. elim c.match-purge_due.branch [
+  | in-Ok w ↦ when_ok c.match-purge_due.result (w.in-Ok.ensures.alone before)
+  | in-Err w ↦ none_of_err _ c.match-purge_due.result w.in-Err.fault w.result-is
+]
+
+pub returns-clause-stopped : goal.returns-clause-stopped
+returns-clause-stopped g c = λ stopped. elim c.match-purge_due.branch [
+  | in-Ok w ↦ rw w.result-is (w.in-Ok.ensures.stopped stopped)
+  | in-Err w ↦ rw w.result-is (w.in-Err.ensures.stopped stopped)
+]
+
+pub returns-clause-stops : goal.returns-clause-stops
+returns-clause-stops g c = elim c.match-purge_due.branch [
+  | in-Ok w ↦ no_err _ c.match-purge_due.result w.in-Ok.groups w.result-is
+  | in-Err w ↦ when_err c.match-purge_due.result w.in-Err.ensures.stops
+]
+
+pub returns-clause-few : goal.returns-clause-few
+returns-clause-few g c = λ going appends rewrites. elim c.match-purge_due.branch [
+  | in-Ok w ↦ let few = w.in-Ok.ensures.few going appends rewrites in (rw w.result-is few.0, few.1)
+  | in-Err w ↦ let few = w.in-Err.ensures.few going appends rewrites in (rw w.result-is few.0, few.1)
+]
