@@ -39,6 +39,7 @@ use Rattle.raft_log_engine.specs.declared.fault.EngineFault.TheVariants as fault
 use Rattle.raft_log_files.specs.declared.error.Error.TheVariants.{Memory}
 use Rattle.raft_log_engine.specs.Unopened.{IsOpeningFault, IsUnopenable}
 use Rattle.raft_log_engine.proofs.Unopened.{both_cause, few_wanted, free_opening, prepared_since, reserved_cause, scan_cause}
+use Rattle.raft_log_pipe.proofs.EndLemmas.{not_given}
 use Rattle.raft_log_engine.proofs.opening.recovered.Goals as goal
 
 -- the format of new files
@@ -381,3 +382,77 @@ returns-in_err-traced-clause-taken g c =
     let d = g.F.FileSystem.disk c.args.files.now in
     let new = g.F.FileSystem.disk c.recover_by.new.files in
     λ nothing. told_cause c.from_residual-in_err-traced.result (fault.Log Memory) (λ (x : EngineFault). IsUnopenable None c.args.config.recovery_mode said d new x) c.from_residual-in_err-traced.ensures.1 tt
+
+-- ---- what is found, where nothing is
+
+pub returns-in_err-scan-clause-ok : goal.returns-in_err-scan-clause-ok
+returns-in_err-scan-clause-ok g c = not_given _ _ c.from_residual.result c.from_residual.ensures.1
+
+pub returns-in_err-scan-clause-paths : goal.returns-in_err-scan-clause-paths
+returns-in_err-scan-clause-paths g c = not_given _ _ c.from_residual.result c.from_residual.ensures.1
+
+pub returns-in_err-scan-clause-settings : goal.returns-in_err-scan-clause-settings
+returns-in_err-scan-clause-settings g c = not_given _ _ c.from_residual.result c.from_residual.ensures.1
+
+pub returns-in_err-scan-clause-holes : goal.returns-in_err-scan-clause-holes
+returns-in_err-scan-clause-holes g c = not_given _ _ c.from_residual.result c.from_residual.ensures.1
+
+pub returns-in_err-scan-clause-alone : goal.returns-in_err-scan-clause-alone
+returns-in_err-scan-clause-alone g c = not_given _ _ c.from_residual.result c.from_residual.ensures.1
+
+pub returns-in_err-scan-clause-reserved : goal.returns-in_err-scan-clause-reserved
+returns-in_err-scan-clause-reserved g c = not_given _ _ c.from_residual.result c.from_residual.ensures.1
+
+pub returns-in_err-pipes-clause-ok : goal.returns-in_err-pipes-clause-ok
+returns-in_err-pipes-clause-ok g c = not_given _ _ c.from_residual-in_err-pipes.result c.from_residual-in_err-pipes.ensures.1
+
+pub returns-in_err-pipes-clause-paths : goal.returns-in_err-pipes-clause-paths
+returns-in_err-pipes-clause-paths g c = not_given _ _ c.from_residual-in_err-pipes.result c.from_residual-in_err-pipes.ensures.1
+
+pub returns-in_err-pipes-clause-settings : goal.returns-in_err-pipes-clause-settings
+returns-in_err-pipes-clause-settings g c = not_given _ _ c.from_residual-in_err-pipes.result c.from_residual-in_err-pipes.ensures.1
+
+pub returns-in_err-pipes-clause-holes : goal.returns-in_err-pipes-clause-holes
+returns-in_err-pipes-clause-holes g c = not_given _ _ c.from_residual-in_err-pipes.result c.from_residual-in_err-pipes.ensures.1
+
+pub returns-in_err-pipes-clause-alone : goal.returns-in_err-pipes-clause-alone
+returns-in_err-pipes-clause-alone g c = not_given _ _ c.from_residual-in_err-pipes.result c.from_residual-in_err-pipes.ensures.1
+
+pub returns-in_err-pipes-clause-reserved : goal.returns-in_err-pipes-clause-reserved
+returns-in_err-pipes-clause-reserved g c = not_given _ _ c.from_residual-in_err-pipes.result c.from_residual-in_err-pipes.ensures.1
+
+pub returns-in_err-traced-clause-ok : goal.returns-in_err-traced-clause-ok
+returns-in_err-traced-clause-ok g c = not_given _ _ c.from_residual-in_err-traced.result c.from_residual-in_err-traced.ensures.1
+
+pub returns-in_err-traced-clause-paths : goal.returns-in_err-traced-clause-paths
+returns-in_err-traced-clause-paths g c = not_given _ _ c.from_residual-in_err-traced.result c.from_residual-in_err-traced.ensures.1
+
+pub returns-in_err-traced-clause-settings : goal.returns-in_err-traced-clause-settings
+returns-in_err-traced-clause-settings g c = not_given _ _ c.from_residual-in_err-traced.result c.from_residual-in_err-traced.ensures.1
+
+pub returns-in_err-traced-clause-holes : goal.returns-in_err-traced-clause-holes
+returns-in_err-traced-clause-holes g c = not_given _ _ c.from_residual-in_err-traced.result c.from_residual-in_err-traced.ensures.1
+
+pub returns-in_err-traced-clause-alone : goal.returns-in_err-traced-clause-alone
+returns-in_err-traced-clause-alone g c = not_given _ _ c.from_residual-in_err-traced.result c.from_residual-in_err-traced.ensures.1
+
+pub returns-in_err-traced-clause-reserved : goal.returns-in_err-traced-clause-reserved
+returns-in_err-traced-clause-reserved g c = not_given _ _ c.from_residual-in_err-traced.result c.from_residual-in_err-traced.ensures.1
+
+pub returns-in_err-prepare_reserved-clause-ok : goal.returns-in_err-prepare_reserved-clause-ok
+returns-in_err-prepare_reserved-clause-ok g c = not_given _ _ c.from_residual-in_err-prepare_reserved.result c.from_residual-in_err-prepare_reserved.ensures.1
+
+pub returns-in_err-prepare_reserved-clause-paths : goal.returns-in_err-prepare_reserved-clause-paths
+returns-in_err-prepare_reserved-clause-paths g c = not_given _ _ c.from_residual-in_err-prepare_reserved.result c.from_residual-in_err-prepare_reserved.ensures.1
+
+pub returns-in_err-prepare_reserved-clause-settings : goal.returns-in_err-prepare_reserved-clause-settings
+returns-in_err-prepare_reserved-clause-settings g c = not_given _ _ c.from_residual-in_err-prepare_reserved.result c.from_residual-in_err-prepare_reserved.ensures.1
+
+pub returns-in_err-prepare_reserved-clause-holes : goal.returns-in_err-prepare_reserved-clause-holes
+returns-in_err-prepare_reserved-clause-holes g c = not_given _ _ c.from_residual-in_err-prepare_reserved.result c.from_residual-in_err-prepare_reserved.ensures.1
+
+pub returns-in_err-prepare_reserved-clause-alone : goal.returns-in_err-prepare_reserved-clause-alone
+returns-in_err-prepare_reserved-clause-alone g c = not_given _ _ c.from_residual-in_err-prepare_reserved.result c.from_residual-in_err-prepare_reserved.ensures.1
+
+pub returns-in_err-prepare_reserved-clause-reserved : goal.returns-in_err-prepare_reserved-clause-reserved
+returns-in_err-prepare_reserved-clause-reserved g c = not_given _ _ c.from_residual-in_err-prepare_reserved.result c.from_residual-in_err-prepare_reserved.ensures.1

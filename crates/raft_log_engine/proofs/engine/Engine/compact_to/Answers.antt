@@ -19,6 +19,7 @@ use Rattle.raft_log_engine.proofs.Caused.{compaction_cause, compaction_memory_ca
 use Rattle.raft_log_engine.specs.Caused.{IsCompactionFault}
 use Rattle.raft_log_engine.specs.declared.fault.EngineFault.{EngineFault}
 use Rattle.raft_log_pipe.proofs.CausedLemmas.{told_cause}
+use Rattle.raft_log_pipe.proofs.EndLemmas.{not_given, not_ok}
 use Rattle.raft_log_engine.proofs.engine.Engine.compact_to.Goals as goal
 
 pub returns-in_err-batch-clause-err : goal.returns-in_err-batch-clause-err
@@ -142,3 +143,64 @@ returns-in_err-write-clause-opens_in_tail g c = c.in_err-write.ensures.opens_in_
 
 pub returns-clause-opens_in_tail : goal.returns-clause-opens_in_tail
 returns-clause-opens_in_tail g c = c.in_ok-write.ensures.opens_in_tail
+
+-- ---- what is written, where nothing is
+
+pub returns-in_err-batch-clause-count : goal.returns-in_err-batch-clause-count
+returns-in_err-batch-clause-count g c = not_given _ _ c.from_residual.result c.from_residual.ensures.1
+
+pub returns-in_err-batch-clause-ok : goal.returns-in_err-batch-clause-ok
+returns-in_err-batch-clause-ok g c = λ sound. not_ok _ _ c.from_residual.result c.from_residual.ensures.1
+
+pub returns-in_err-batch-clause-sound : goal.returns-in_err-batch-clause-sound
+returns-in_err-batch-clause-sound g c = λ sound. not_ok _ _ c.from_residual.result c.from_residual.ensures.1
+
+pub returns-in_err-batch-clause-alone : goal.returns-in_err-batch-clause-alone
+returns-in_err-batch-clause-alone g c = λ alone. not_ok _ _ c.from_residual.result c.from_residual.ensures.1
+
+pub returns-in_err-batch-clause-opens : goal.returns-in_err-batch-clause-opens
+returns-in_err-batch-clause-opens g c = λ alone. not_ok _ _ c.from_residual.result c.from_residual.ensures.1
+
+pub returns-in_err-batch-clause-written : goal.returns-in_err-batch-clause-written
+returns-in_err-batch-clause-written g c = λ before batches held. not_ok _ _ c.from_residual.result c.from_residual.ensures.1
+
+pub returns-in_err-batch-clause-all_written : goal.returns-in_err-batch-clause-all_written
+returns-in_err-batch-clause-all_written g c = not_ok _ _ c.from_residual.result c.from_residual.ensures.1
+
+pub returns-in_err-write-clause-count : goal.returns-in_err-write-clause-count
+returns-in_err-write-clause-count g c = not_given _ _ c.from_residual-in_err-write.result c.from_residual-in_err-write.ensures.1
+
+pub returns-in_err-write-clause-ok : goal.returns-in_err-write-clause-ok
+returns-in_err-write-clause-ok g c = λ sound. not_ok _ _ c.from_residual-in_err-write.result c.from_residual-in_err-write.ensures.1
+
+pub returns-in_err-write-clause-sound : goal.returns-in_err-write-clause-sound
+returns-in_err-write-clause-sound g c = λ sound. not_ok _ _ c.from_residual-in_err-write.result c.from_residual-in_err-write.ensures.1
+
+pub returns-in_err-write-clause-alone : goal.returns-in_err-write-clause-alone
+returns-in_err-write-clause-alone g c = λ alone. not_ok _ _ c.from_residual-in_err-write.result c.from_residual-in_err-write.ensures.1
+
+pub returns-in_err-write-clause-opens : goal.returns-in_err-write-clause-opens
+returns-in_err-write-clause-opens g c = λ alone. not_ok _ _ c.from_residual-in_err-write.result c.from_residual-in_err-write.ensures.1
+
+pub returns-in_err-write-clause-written : goal.returns-in_err-write-clause-written
+returns-in_err-write-clause-written g c = λ before batches held. not_ok _ _ c.from_residual-in_err-write.result c.from_residual-in_err-write.ensures.1
+
+pub returns-in_err-write-clause-all_written : goal.returns-in_err-write-clause-all_written
+returns-in_err-write-clause-all_written g c = not_ok _ _ c.from_residual-in_err-write.result c.from_residual-in_err-write.ensures.1
+
+-- ---- as the write leaves it
+
+pub returns-in_err-write-clause-paths : goal.returns-in_err-write-clause-paths
+returns-in_err-write-clause-paths g c = c.in_err-write.ensures.paths
+
+pub returns-in_err-write-clause-set : goal.returns-in_err-write-clause-set
+returns-in_err-write-clause-set g c = c.in_err-write.ensures.set
+
+pub returns-in_err-write-clause-threshold : goal.returns-in_err-write-clause-threshold
+returns-in_err-write-clause-threshold g c = c.in_err-write.ensures.threshold
+
+pub returns-in_err-write-clause-marks : goal.returns-in_err-write-clause-marks
+returns-in_err-write-clause-marks g c = c.in_err-write.ensures.marks
+
+pub returns-in_err-write-clause-later : goal.returns-in_err-write-clause-later
+returns-in_err-write-clause-later g c = c.in_err-write.ensures.later

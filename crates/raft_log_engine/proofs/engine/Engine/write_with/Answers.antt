@@ -29,6 +29,7 @@ use Rattle.raft_log_engine.specs.Caused.{IsWriteFault}
 use Rattle.raft_log_engine.specs.declared.fault.EngineFault.{EngineFault}
 use Rattle.raft_log_pipe.proofs.CausedLemmas.{told_cause}
 use Rattle.raft_log_engine.proofs.HearingLemmas.{append_heard, if_err, write_heard}
+use Rattle.raft_log_pipe.proofs.EndLemmas.{not_given, not_ok}
 use Rattle.raft_log_engine.proofs.engine.Engine.write_with.Goals as goal
 
 pub returns-then-self-clause-opens_front : goal.returns-then-self-clause-opens_front
@@ -489,3 +490,112 @@ returns-clause-heard g c =
     (parts c.append_batch.new.files c.append_batch.new.pipes c.apply.new.traced.tables c.self.inside.is_stopped c.skips_sync-self-inside.result c.self.inside.blocks.reads c.apply.new.traced c.self.inside.manager.purge_threshold)
     c.prepare.new.batch.items c.in-Ok.written c.file_span-last.result.1 c.file_span-last.ensures.last held.synced held.unsynced held.held.append c.append_batch.new.pipes.appends c.in-Ok.ensures.stands
     c.args.listeners.now c.tell_appended.new.listeners c.tell_applied.new.listeners c.tell_appended.ensures.told c.tell_applied.ensures.told)
+
+-- ---- what is written, where nothing is
+
+pub returns-in_err-sync-clause-answers : goal.returns-in_err-sync-clause-answers
+returns-in_err-sync-clause-answers g c = not_ok _ _ c.from_residual.result c.from_residual.ensures.1
+
+pub returns-in_err-sync-clause-ok : goal.returns-in_err-sync-clause-ok
+returns-in_err-sync-clause-ok g c = λ sound. not_ok _ _ c.from_residual.result c.from_residual.ensures.1
+
+pub returns-in_err-sync-clause-sound : goal.returns-in_err-sync-clause-sound
+returns-in_err-sync-clause-sound g c = λ sound. not_ok _ _ c.from_residual.result c.from_residual.ensures.1
+
+pub returns-in_err-sync-clause-alone : goal.returns-in_err-sync-clause-alone
+returns-in_err-sync-clause-alone g c = λ alone. not_ok _ _ c.from_residual.result c.from_residual.ensures.1
+
+pub returns-in_err-sync-clause-opens : goal.returns-in_err-sync-clause-opens
+returns-in_err-sync-clause-opens g c = λ alone. not_ok _ _ c.from_residual.result c.from_residual.ensures.1
+
+pub returns-in_err-sync-clause-written : goal.returns-in_err-sync-clause-written
+returns-in_err-sync-clause-written g c = λ before batches held. not_ok _ _ c.from_residual.result c.from_residual.ensures.1
+
+pub returns-in_err-sync-clause-all_written : goal.returns-in_err-sync-clause-all_written
+returns-in_err-sync-clause-all_written g c = not_ok _ _ c.from_residual.result c.from_residual.ensures.1
+
+pub returns-in_err-sync-clause-emptied : goal.returns-in_err-sync-clause-emptied
+returns-in_err-sync-clause-emptied g c = not_ok _ _ c.from_residual.result c.from_residual.ensures.1
+
+pub returns-in_err-sync-clause-empty : goal.returns-in_err-sync-clause-empty
+returns-in_err-sync-clause-empty g c = λ none. not_given _ _ c.from_residual.result c.from_residual.ensures.1
+
+pub returns-in_err-sync-clause-len : goal.returns-in_err-sync-clause-len
+returns-in_err-sync-clause-len g c = λ some. not_given _ _ c.from_residual.result c.from_residual.ensures.1
+
+pub returns-in_err-sync-clause-heard : goal.returns-in_err-sync-clause-heard
+returns-in_err-sync-clause-heard g c = λ some. not_ok _ _ c.from_residual.result c.from_residual.ensures.1
+
+pub returns-in_err-len-clause-answers : goal.returns-in_err-len-clause-answers
+returns-in_err-len-clause-answers g c = not_ok _ _ c.from_residual-in_err-len.result c.from_residual-in_err-len.ensures.1
+
+pub returns-in_err-len-clause-ok : goal.returns-in_err-len-clause-ok
+returns-in_err-len-clause-ok g c = λ sound. not_ok _ _ c.from_residual-in_err-len.result c.from_residual-in_err-len.ensures.1
+
+pub returns-in_err-len-clause-sound : goal.returns-in_err-len-clause-sound
+returns-in_err-len-clause-sound g c = λ sound. not_ok _ _ c.from_residual-in_err-len.result c.from_residual-in_err-len.ensures.1
+
+pub returns-in_err-len-clause-alone : goal.returns-in_err-len-clause-alone
+returns-in_err-len-clause-alone g c = λ alone. not_ok _ _ c.from_residual-in_err-len.result c.from_residual-in_err-len.ensures.1
+
+pub returns-in_err-len-clause-opens : goal.returns-in_err-len-clause-opens
+returns-in_err-len-clause-opens g c = λ alone. not_ok _ _ c.from_residual-in_err-len.result c.from_residual-in_err-len.ensures.1
+
+pub returns-in_err-len-clause-written : goal.returns-in_err-len-clause-written
+returns-in_err-len-clause-written g c = λ before batches held. not_ok _ _ c.from_residual-in_err-len.result c.from_residual-in_err-len.ensures.1
+
+pub returns-in_err-len-clause-all_written : goal.returns-in_err-len-clause-all_written
+returns-in_err-len-clause-all_written g c = not_ok _ _ c.from_residual-in_err-len.result c.from_residual-in_err-len.ensures.1
+
+pub returns-in_err-len-clause-emptied : goal.returns-in_err-len-clause-emptied
+returns-in_err-len-clause-emptied g c = not_ok _ _ c.from_residual-in_err-len.result c.from_residual-in_err-len.ensures.1
+
+pub returns-in_err-len-clause-empty : goal.returns-in_err-len-clause-empty
+returns-in_err-len-clause-empty g c = λ none. not_given _ _ c.from_residual-in_err-len.result c.from_residual-in_err-len.ensures.1
+
+pub returns-in_err-len-clause-len : goal.returns-in_err-len-clause-len
+returns-in_err-len-clause-len g c = λ some. not_given _ _ c.from_residual-in_err-len.result c.from_residual-in_err-len.ensures.1
+
+pub returns-in_err-len-clause-heard : goal.returns-in_err-len-clause-heard
+returns-in_err-len-clause-heard g c = λ some. not_ok _ _ c.from_residual-in_err-len.result c.from_residual-in_err-len.ensures.1
+
+-- ---- an empty batch, as the sync leaves it
+
+pub returns-in_err-sync-clause-paths : goal.returns-in_err-sync-clause-paths
+returns-in_err-sync-clause-paths g c = c.in_err-sync.ensures.paths
+
+pub returns-in_err-sync-clause-set : goal.returns-in_err-sync-clause-set
+returns-in_err-sync-clause-set g c = c.in_err-sync.ensures.set
+
+pub returns-in_err-sync-clause-threshold : goal.returns-in_err-sync-clause-threshold
+returns-in_err-sync-clause-threshold g c = c.in_err-sync.ensures.threshold
+
+pub returns-in_err-sync-clause-marks : goal.returns-in_err-sync-clause-marks
+returns-in_err-sync-clause-marks g c = c.in_err-sync.ensures.marks
+
+pub returns-in_err-sync-clause-later : goal.returns-in_err-sync-clause-later
+returns-in_err-sync-clause-later g c = c.in_err-sync.ensures.later
+
+pub returns-then-sync-clause-paths : goal.returns-then-sync-clause-paths
+returns-then-sync-clause-paths g c = c.in_ok-sync.ensures.paths
+
+pub returns-then-sync-clause-set : goal.returns-then-sync-clause-set
+returns-then-sync-clause-set g c = c.in_ok-sync.ensures.set
+
+pub returns-then-sync-clause-threshold : goal.returns-then-sync-clause-threshold
+returns-then-sync-clause-threshold g c = c.in_ok-sync.ensures.threshold
+
+pub returns-then-sync-clause-marks : goal.returns-then-sync-clause-marks
+returns-then-sync-clause-marks g c = c.in_ok-sync.ensures.marks
+
+pub returns-then-sync-clause-later : goal.returns-then-sync-clause-later
+returns-then-sync-clause-later g c = c.in_ok-sync.ensures.later
+
+pub returns-then-sync-clause-all_written : goal.returns-then-sync-clause-all_written
+returns-then-sync-clause-all_written g c = λ synced. c.in_ok-sync.ensures.all_written
+
+pub returns-then-sync-clause-alone : goal.returns-then-sync-clause-alone
+returns-then-sync-clause-alone g c = c.in_ok-sync.ensures.alone
+
+pub returns-then-sync-clause-sound : goal.returns-then-sync-clause-sound
+returns-then-sync-clause-sound g c = λ sound synced. c.in_ok-sync.ensures.sound sound

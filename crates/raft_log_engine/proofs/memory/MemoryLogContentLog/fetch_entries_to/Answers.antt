@@ -8,6 +8,7 @@ use Rattle.raft_log_engine.specs.Parts.{Parts}
 use Rattle.raft_log_engine.specs.Left.{answers_on}
 use Rattle.raft_log_engine.proofs.Crashes.{log_on}
 use Rattle.raft_log_engine.proofs.Fetched.{all_read}
+use Rattle.raft_log_pipe.proofs.EndLemmas.{not_given, not_ok}
 use Rattle.raft_log_engine.proofs.memory.MemoryLogContentLog.fetch_entries_to.Goals as goal
 
 pub invariant_of-self : goal.invariant_of-self
@@ -33,3 +34,11 @@ returns-clause-entries c =
     let all = c.in_ok-found.found.items in
     let len : length all ≡ c.args.end - c.args.begin = search rules in
     rw (← c.self.view_is) (λ sound. all_read (answers_on disk_in c.self.inside.engine c.args.group) c.args.begin c.args.end (payloads all) c.in_ok-found.ensures.found (length-map all (λ v. v.items) ∙ len))
+
+-- ---- a read that was refused gives nothing
+
+pub returns-in_err-found-clause-entries : goal.returns-in_err-found-clause-entries
+returns-in_err-found-clause-entries c = λ sound. not_given _ _ c.from_residual.result c.from_residual.ensures.1
+
+pub returns-in_err-found-clause-sound : goal.returns-in_err-found-clause-sound
+returns-in_err-found-clause-sound c = λ sound. not_ok _ _ c.from_residual.result c.from_residual.ensures.1
