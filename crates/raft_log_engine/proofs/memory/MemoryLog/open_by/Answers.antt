@@ -1,5 +1,5 @@
 -- In one directory no two files have one number, so an engine that is opened stands alone.
-use Rattle.std.proofs.Common.{◌≡◌, List, false, refl, ap, subst, ◌∙◌}
+use Rattle.std.proofs.Common.{◌≡◌, List, false, inl, refl, ap, subst, ◌∙◌}
 use Rattle.raft_log_disk.specs.MemorySystem.{disk_in}
 use Rattle.raft_log_disk.specs.Text.{Text}
 use Rattle.raft_log_engine.specs.Left.{answers_on}
@@ -12,7 +12,7 @@ use Rattle.raft_log_records.specs.declared.version.Version.{Version}
 use Rattle.raft_log_disk.specs.declared.format.LogFileFormat.{LogFileFormat}
 use Rattle.raft_log_files.specs.declared.recovery.RecoveryMode.{RecoveryMode}
 use Rattle.raft_log_engine.specs.Log.{main_directory}
-use Rattle.raft_log_engine.specs.Opening.{CantBeOpened, HasHolesIn, IsFoundAgain, IsLeftByOpening}
+use Rattle.raft_log_engine.specs.Opening.{CantBeOpened, HasHolesIn, IsFoundAgain, IsFoundContent, IsLeftByOpening}
 use Rattle.raft_log_engine.specs.Reopened.{OpensInTail}
 use Rattle.raft_log_engine.proofs.Corrupt.{along}
 use Rattle.raft_log_engine.proofs.Logs.{leaves_only}
@@ -22,6 +22,8 @@ use Rattle.raft_log_files.specs.Settings.{settings_fault, settings_of}
 use Rattle.raft_log_files.specs.declared.error.OtherFault.{OtherFault}
 use Rattle.raft_log_engine.specs.Unopened.{IsOpeningFault}
 use Rattle.raft_log_engine.proofs.Unopened.{free_fault}
+use Rattle.raft_log_disk.proofs.RefusalLemmas.{no_more_same}
+use Rattle.raft_log_recovery.proofs.DirectoryLemmas.{makes_none}
 use Rattle.raft_log_engine.proofs.memory.MemoryLog.open_by.Goals as goal
 
 pub invariant_of-result : goal.invariant_of-result
@@ -92,3 +94,28 @@ pub returns-in-Err-clause-taken : goal.returns-in-Err-clause-taken
 returns-in-Err-clause-taken g c = λ free.
     free_fault c.args.files.settings.recovery_mode (main_directory c.args.files.settings) (disk_in c.args.files.files) (disk_in c.in-Err.field-0.files) (is_bounded_in c.args.files.files) (meter_in c.args.files.files)
     (meter_in c.in-Err.field-0.files) (settings_fault (settings_of c.args.files.settings)) free c.in-Err.field-0.fault (returns-in-Err-clause-cause g c)
+
+-- ---- as the engine was opened
+
+pub returns-in-Ok-open_by-clause-answers : goal.returns-in-Ok-open_by-clause-answers
+returns-in-Ok-open_by-clause-answers g c = along (λ m l. IsFoundContent m l (disk_in c.args.files.files) (answers_on disk_in c.in-Ok-open_by.engine)) c.in-Ok.ensures.mode c.in-Ok.ensures.directories c.in-Ok-open_by.ensures.answers
+
+pub returns-in-Ok-open_by-clause-later : goal.returns-in-Ok-open_by-clause-later
+returns-in-Ok-open_by-clause-later g c = c.in-Ok-open_by.ensures.later
+
+pub returns-in-Err-clause-later : goal.returns-in-Err-clause-later
+returns-in-Err-clause-later g c = c.in-Err.ensures.later
+
+-- ---- memory was lacking before
+
+pub returns-in_default-clause-err : goal.returns-in_default-clause-err
+returns-in_default-clause-err g c = inl (makes_none (main_directory c.args.files.settings) (disk_in c.args.files.files) (disk_in c.args.files.files) refl)
+
+pub returns-in_default-clause-reads : goal.returns-in_default-clause-reads
+returns-in_default-clause-reads g c = λ content found. found
+
+pub returns-in_default-clause-later : goal.returns-in_default-clause-later
+returns-in_default-clause-later g c = no_more_same (is_bounded_in c.args.files.files) (meter_in c.args.files.files)
+
+pub returns-in_default-clause-taken : goal.returns-in_default-clause-taken
+returns-in_default-clause-taken g c = λ free. tt
