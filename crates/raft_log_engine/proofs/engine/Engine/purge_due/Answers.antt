@@ -197,16 +197,16 @@ pub returns-in-Err-Marked-clause-stops : goal.returns-in-Err-Marked-clause-stops
 returns-in-Err-Marked-clause-stops g c = tt
 
 pub returns-in-Err-Marked-clause-answers : goal.returns-in-Err-Marked-clause-answers
-returns-in-Err-Marked-clause-answers g c = 
+returns-in-Err-Marked-clause-answers g c =
     let same = c.clean_by.ensures.marked (c.in-Err-Marked.is ∙ ap (λ (fault : EngineFault). Err fault) c.in-Err-Marked.field-0-is) in
     rw same refl
 
 pub returns-in-Err-Marked-clause-sound : goal.returns-in-Err-Marked-clause-sound
-returns-in-Err-Marked-clause-sound g c = 
+returns-in-Err-Marked-clause-sound g c =
     let same = c.clean_by.ensures.marked (c.in-Err-Marked.is ∙ ap (λ (fault : EngineFault). Err fault) c.in-Err-Marked.field-0-is) in
     λ sound. rw same sound
 
 pub returns-in-Err-Marked-clause-few : goal.returns-in-Err-Marked-clause-few
-returns-in-Err-Marked-clause-few g c = 
+returns-in-Err-Marked-clause-few g c =
     let same = c.clean_by.ensures.marked (c.in-Err-Marked.is ∙ ap (λ (fault : EngineFault). Err fault) c.in-Err-Marked.field-0-is) in
     λ going appends rewrites. (c.new-none.ensures.items, same)
