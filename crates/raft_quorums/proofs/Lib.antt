@@ -2,4 +2,3 @@ pub mod PlaceLemmas
 pub mod RisingLemmas
 pub mod CoherentLemmas
 pub mod EachOnceLemmas
-pub mod StepLemmas

@@ -1,17 +1,15 @@
 -- A search from the front finds the place, and what is put there is in order.
-use Rattle.std.proofs.Common.{◌≡◌, ℕ, zero, suc, ◌+◌, ◌<◌, ◌≤◌, Bool, true, false, cond, Option, Some, drop, List, [], ◌∷◌, length, map, get_or, refl, ap, sym, ◌∙◌, arith}
+use Rattle.std.proofs.Common.{◌≡◌, ℕ, zero, suc, ◌<◌, ◌≤◌, List, [], ◌∷◌, length, map, get_or, refl, ap, sym, ◌∙◌, arith}
 use Rattle.std.specs.Prelude.{Result, Ok, Err}
 use Rattle.std.specs.declared.cmp.Ordering.{Ordering}
 use Rattle.std.specs.declared.cmp.Ordering.TheVariants.{Less, Equal, Greater}
 use Rattle.std.specs.Ordering.{match_ordering, ordering_reverse}
 use Rattle.std.specs.Cmp.{IsTotalOrder}
-use Rattle.std.specs.List.{find, insert}
-use Rattle.std.specs.Option.{option_map}
-use Rattle.std.proofs.lemmas.List.{drop_more}
+use Rattle.std.specs.List.{insert}
 use Rattle.std.specs.BTreeSet.{insert_key}
 use Rattle.raft_quorums.specs.Place.{place, after_one}
 use Rattle.raft_quorums.specs.Rising.{IsBelowAll, IsRisingByFirst}
-use Rattle.raft_quorums.specs.Nodes.{node_at, with_node}
+use Rattle.raft_quorums.specs.Nodes.{with_node}
 use Rattle.raft_quorums.specs.RisingLaws.{below_trans}
 use Rattle.std.proofs.Math.ListN.{set}
 
@@ -126,16 +124,3 @@ module _ {K N : Type 0} {cmp : K → K → Ordering} (order : IsTotalOrder cmp) 
         | Equal ↦ λ e. (below-equal order id x.0 (map (λ (x : K × N). x.0) xs) e h.0, h.1)
         | Greater ↦ λ e. (below-with_node x.0 id node xs (order.antisymm x.0 id ∙ ap ordering_reverse e) h.0, rising-with_node id node xs h.1)
       ] refl
-
--- the node with an id, looked for from a place on
-module _ {K N : Type 0} (eq : K → K → Bool) (xs : List (K × N)) (i : ℕ) (x : K × N) (id : K) (within : i < length xs) (here : x ≡ get_or xs i x) where
-  node_from : (b : Bool) → b ≡ eq x.0 id → node_at eq (drop i xs) id ≡ option_map (λ (y : K × N). y.1) (cond b (Some x) (find (λ (y : K × N). eq y.0 id) (drop (i + 1) xs)))
-  node_from b is =
-      ap (λ l. node_at eq l id) (drop_more xs i x within ∙ ap (λ y. y ∷ drop (i + 1) xs) (sym here))
-      ∙ ap (λ t. option_map (λ (y : K × N). y.1) (cond t (Some x) (find (λ (y : K × N). eq y.0 id) (drop (i + 1) xs)))) (sym is)
-
-  pub node_here : true ≡ eq x.0 id → node_at eq (drop i xs) id ≡ Some x.1
-  node_here is = node_from true is
-
-  pub node_past : false ≡ eq x.0 id → node_at eq (drop i xs) id ≡ node_at eq (drop (i + 1) xs) id
-  node_past is = node_from false is

@@ -1,6 +1,6 @@
 //! Sets of node ids.
 ghost use Rattle.std.specs.Prelude.{◌≡◌, ◌+◌, ◌<◌, [], length, IfOk, OnOk, OnErr, MatchResult, ◌≤◌, ◌==◌, if◌then◌else◌, suc};
-ghost use Rattle.std.specs.List.{filter, fold, list_any};
+ghost use Rattle.std.specs.List.{filter, list_any};
 ghost use Rattle.raft_quorums.specs.Quorum.{rising_ids};
 ghost use Rattle.raft_quorums.specs.Nodes.{with_ids};
 ghost use Rattle.std.specs.BTreeSet.{insert_key};
@@ -81,16 +81,6 @@ fn filter_ids<NID: NodeId, S: HasId<NID>>(
     Ok(kept)
 }
 
-// Takes all these ids in.
-pub(crate) fn insert_all<NID: NodeId>(set: &mut IdSet<NID>, ids: &[NID]) -> Result<(), AllocError>
-    ensures { OnOk result (set.new ≡ fold (insert_key NID.cmp) set.old ids.now) }
-{
-    for id in ids {
-        set.insert(*id)?;
-    }
-    Ok(())
-}
-
 impl<NID: NodeId> IdSet<NID> {
     /// The set with no ids.
     pub fn new(alloc: Global) -> IdSet<NID>
@@ -121,7 +111,9 @@ impl<NID: NodeId> IdSet<NID> {
         ensures { IfOk result (λ set. set ≡ rising_ids NID.cmp ids.now) }
     {
         let mut set = IdSet::new(alloc);
-        insert_all(&mut set, ids)?;
+        for id in ids {
+            set.insert(*id)?;
+        }
         Ok(set)
     }
 
@@ -150,7 +142,9 @@ impl<NID: NodeId> IdSet<NID> {
         ensures { IfOk result (λ set. set ≡ with_ids NID.cmp self.now ids.now) }
     {
         let mut set = self.clone()?;
-        insert_all(&mut set, ids)?;
+        for id in ids {
+            set.insert(*id)?;
+        }
         Ok(set)
     }
 

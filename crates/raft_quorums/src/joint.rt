@@ -1,5 +1,5 @@
 //! Joint quorum sets: a quorum of each child at once.
-ghost use Rattle.std.specs.Prelude.{◌≡◌, ◌<◌, Bool, List, [], length, true, IfOk};
+ghost use Rattle.std.specs.Prelude.{◌≡◌, ◌<◌, Bool, List, [], length, true, IfOk, OnOk};
 ghost use Rattle.std.specs.List.{list_all, list_any, fold};
 ghost use Rattle.std.specs.BTreeSet.{insert_key};
 ghost use Rattle.raft_quorums.specs.Quorum.{joint_ids, next_configs};
@@ -7,7 +7,7 @@ ghost use Rattle.raft_quorums.specs.QuorumLaws.{IsWithin, wider_joint};
 ghost use Rattle.raft_quorums.specs.RisingLaws.{joint_ids_rise};
 
 use crate::has_id::HasId;
-use crate::id_set::{IdSet, insert_all};
+use crate::id_set::IdSet;
 use crate::quorum_set::QuorumSet;
 use raft_values::node::NodeId;
 use std::alloc::{AllocError, Global};
@@ -52,6 +52,16 @@ pub fn all_accept<ID: NodeId, QS: QuorumSet<ID>, S: HasId<ID>>(children: &[QS], 
     ensures { result ≡ list_all (λ q. QS.accepts q (S.has nodes.now)) children.now }
 {
     children.iter().all(|child| child.is_quorum(nodes))
+}
+
+// Takes all these ids in.
+pub(crate) fn insert_all<ID: NodeId>(set: &mut IdSet<ID>, ids: &[ID]) -> Result<(), AllocError>
+    ensures { OnOk result (set.new ≡ fold (insert_key ID.cmp) set.old ids.now) }
+{
+    for id in ids {
+        set.insert(*id)?;
+    }
+    Ok(())
 }
 
 // The ids of all children.

@@ -101,32 +101,6 @@ fn first_ids<NID: NodeId, N: Node>(
     Ok(ids)
 }
 
-// Takes all these nodes in, in place of those with their ids.
-fn insert_all<NID: NodeId, N: Node>(
-    map: &mut NodeMap<NID, N>,
-    nodes: &[(NID, N)],
-) -> Result<(), AllocError>
-    ensures { OnOk result (map.new ≡ with_nodes NID.cmp map.old nodes.now) }
-{
-    for (id, node) in nodes {
-        map.insert(*id, node.clone()?)?;
-    }
-    Ok(())
-}
-
-// Takes those of these nodes in whose ids are new.
-fn insert_all_new<NID: NodeId, N: Node>(
-    map: &mut NodeMap<NID, N>,
-    nodes: &[(NID, N)],
-) -> Result<(), AllocError>
-    ensures { OnOk result (map.new ≡ with_new_nodes NID.eq NID.cmp map.old nodes.now) }
-{
-    for (id, node) in nodes {
-        map.insert_new(*id, node.clone()?)?;
-    }
-    Ok(())
-}
-
 impl<NID: NodeId, N: Node> NodeMap<NID, N> {
     /// No nodes.
     pub fn new(alloc: Global) -> NodeMap<NID, N>
@@ -205,7 +179,9 @@ impl<NID: NodeId, N: Node> NodeMap<NID, N> {
         ensures { IfOk result (λ map. map ≡ with_nodes NID.cmp self.now nodes.now) }
     {
         let mut map = self.clone()?;
-        insert_all(&mut map, nodes)?;
+        for (id, node) in nodes {
+            map.insert(*id, node.clone()?)?;
+        }
         Ok(map)
     }
 
@@ -214,7 +190,9 @@ impl<NID: NodeId, N: Node> NodeMap<NID, N> {
         ensures { IfOk result (λ map. map ≡ with_new_nodes NID.eq NID.cmp self.now nodes.now) }
     {
         let mut map = self.clone()?;
-        insert_all_new(&mut map, nodes)?;
+        for (id, node) in nodes {
+            map.insert_new(*id, node.clone()?)?;
+        }
         Ok(map)
     }
 

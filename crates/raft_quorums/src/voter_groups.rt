@@ -4,7 +4,8 @@ ghost use Rattle.raft_quorums.specs.Quorum.{joint_ids, last_config, next_configs
 ghost use Rattle.std.specs.Cmp.Lexicographic.{pointwise, lists_per, lists_equiv};
 
 use crate::coherent::next_children;
-use crate::id_set::{IdSet, insert_all};
+use crate::id_set::IdSet;
+use crate::joint::insert_all;
 use raft_values::node::NodeId;
 use std::alloc::{AllocError, AllocFailed, Global};
 use std::marker::Model;

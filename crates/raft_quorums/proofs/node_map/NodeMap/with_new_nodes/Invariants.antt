@@ -1,0 +1,6 @@
+use Rattle.std.proofs.Common.{◌≡◌, take}
+use Rattle.raft_quorums.specs.Nodes.{with_new_nodes}
+use Rattle.raft_quorums.proofs.node_map.NodeMap.with_new_nodes.Given as goal
+
+abbrev pub invariant-loop-id : goal.invariant-loop-id
+invariant-loop-id g l = l.map ≡ with_new_nodes g.NID.PartialEq.eq g.NID.Ord.cmp l.self (take l.id-index l.nodes)

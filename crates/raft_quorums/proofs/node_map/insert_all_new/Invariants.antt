@@ -1,6 +1,0 @@
-use Rattle.std.proofs.Common.{◌≡◌, take}
-use Rattle.raft_quorums.specs.Nodes.{with_new_nodes}
-use Rattle.raft_quorums.proofs.node_map.insert_all_new.Given as goal
-
-abbrev pub invariant-loop-id : goal.invariant-loop-id
-invariant-loop-id g l = l.map ≡ with_new_nodes g.NID.PartialEq.eq g.NID.Ord.cmp l.initial.map (take l.id-index l.nodes)
