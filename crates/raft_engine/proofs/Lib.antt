@@ -39,6 +39,5 @@ pub mod GapLemmas
 pub mod AlternatingLemmas
 pub mod ForwardLemmas
 pub mod ClockLemmas
-pub mod EndLemmas
 pub mod StartLemmas
 pub mod ForceLemmas

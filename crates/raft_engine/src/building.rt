@@ -36,7 +36,7 @@ impl<C: RaftTypeConfig<NodeId = u64, Node = BasicNode, D = Bytes>> Engine<C> {
     {
         let before = self.state.state.committed;
         let is_building = self.state.state.io_state.building_snapshot();
-        let is_asked = self.ask_for_snapshot()?;
+        let is_asked = self.snapshot_handler().trigger_snapshot()?;
         if !is_building && !is_asked {
             self.finish(before)?;
         }
@@ -60,31 +60,18 @@ impl<C: RaftTypeConfig<NodeId = u64, Node = BasicNode, D = Bytes>> Engine<C> {
             → (result ≡ Ok (Ok tt)) × (self.new ≡ with_building false self.old) }
     {
         if !self.state.state.io_state.building_snapshot() {
-            drop(meta);
             return Ok(Err(CallError::NotBuilding));
         }
-        self.take_built(meta)?;
-        Ok(Ok(()))
-    }
-
-    // The snapshot that is being built is the node's last one from now on, if it goes past the one
-    // before, and none is being built any more.
-    fn take_built(&mut self, meta: SnapshotMeta<u64, BasicNode>) -> Result<(), AllocError>
-        ensures heard { OnOk result (KeepsHeard self.old.leader self.new.leader) }
-        ensures built { (own at : ℕ) (before : _) (s : GroupState) (x : Snapshot) → self.old ≡ asking before → before.output.queue ≡ [] → IsStateOf own self.old s → IsReady own s
-            → refusal_of own s (Call TriggerSnapshot at) ≡ None → meta ≡ meta_of (Some x) → IsSnapshotOfApplied s x
-            → OnOk result (HasTaken x own before self.new s (Call TriggerSnapshot at)) }
-        ensures ignored { stands_before (covered_id self.old) meta.last_log_id ≡ false → (result ≡ Ok tt) × (self.new ≡ with_building false self.old) }
-    {
         self.state.state.io_state.set_building_snapshot(false);
         let is_changed = self.state.memberships.len() == 0;
         let before = self.state.state.committed;
-        let is_updated = self.update_snapshot(meta)?;
+        let is_updated = self.snapshot_handler().update_snapshot(meta)?;
         if !is_updated {
-            return Ok(());
+            return Ok(Ok(()));
         }
         let membership = self.state.effective_membership();
         count_if(self.alloc, is_changed, &mut self.leader, membership)?;
-        self.finish(before)
+        self.finish(before)?;
+        Ok(Ok(()))
     }
 }

@@ -64,7 +64,6 @@ impl<C: RaftTypeConfig> Engine<C> {
         ensures made { IfOk result (λ e. (e.config ≡ config_of config.id) × BeginsWith init_state e) }
     {
         if !has_rules_numbers(&config) {
-            drop(init_state);
             return Err(CallError::OtherConfig);
         }
         Ok(Engine::of_node(alloc, init_state, config.id))

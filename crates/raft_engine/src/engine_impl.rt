@@ -67,7 +67,6 @@ impl<C: RaftTypeConfig<NodeId = u64, Node = BasicNode, D = Bytes>> Engine<C> {
             let last_log_id = self.state.last_log_id();
             let vote = *self.state.state.vote_ref();
             let refused = NotAllowed { last_log_id, vote };
-            drop(membership);
             return Ok(Err(InitializeError::NotAllowed(refused)));
         }
         let node_id = self.config.id;
@@ -80,7 +79,8 @@ impl<C: RaftTypeConfig<NodeId = u64, Node = BasicNode, D = Bytes>> Engine<C> {
         }
         let before = self.state.state.committed;
         self.initialize_part(membership, now)?;
-        self.finish_call(before)
+        self.finish(before)?;
+        Ok(Ok(()))
     }
 
     /// The node stands for election at this moment, in ticks (openraft). It leads at once where
@@ -155,12 +155,12 @@ impl<C: RaftTypeConfig<NodeId = u64, Node = BasicNode, D = Bytes>> Engine<C> {
             → IfOk result (λ answer. (answer ≡ Ok tt) × HasTaken x own self.old self.new s (received own tx.peer (AppendRequest m) at)) }
     {
         if !follow_one_another(req.prev_log_id, req.entries.as_slice()) {
-            drop(req);
             return Ok(Err(CallError::GapInEntries));
         }
         let before = self.state.state.committed;
         self.append_request(req, tx, now)?;
-        self.finish_call(before)
+        self.finish(before)?;
+        Ok(Ok(()))
     }
 
     /// A leader sends its whole snapshot at this moment, in ticks (openraft). The answer to it is
@@ -196,13 +196,13 @@ impl<C: RaftTypeConfig<NodeId = u64, Node = BasicNode, D = Bytes>> Engine<C> {
         ensures taken { (x : Snapshot) (own at token : ℕ) (s : GroupState) → MayTake own self.old s (Call (Propose command token) at)
             → IfOk result (λ answer. (answer ≡ Ok tt) × HasTaken x own self.old self.new s (Call (Propose command token) at)) }
     {
-        if self.leader.is_none() {
-            drop(command);
-            return self.send_elsewhere();
+        if let Some(forward) = self.led_elsewhere() {
+            return Ok(Err(forward?));
         }
         let before = self.state.state.committed;
         self.propose_part(command)?;
-        self.finish_call(before)
+        self.finish(before)?;
+        Ok(Ok(()))
     }
 
     /// A leader takes the membership that a change of the one in force makes (own; openraft's
@@ -219,13 +219,13 @@ impl<C: RaftTypeConfig<NodeId = u64, Node = BasicNode, D = Bytes>> Engine<C> {
             → membership_in_force s.stored ≡ Some m → changed ≡ after_change m.membership change → MayTake own self.old s (Call (ChangeMembership change token) at)
             → IfOk result (λ answer. (answer ≡ Ok tt) × HasTaken x own self.old self.new s (Call (ChangeMembership change token) at)) }
     {
-        if self.leader.is_none() {
-            drop(changed);
-            return self.send_elsewhere();
+        if let Some(forward) = self.led_elsewhere() {
+            return Ok(Err(forward?));
         }
         let before = self.state.state.committed;
         self.membership_part(changed)?;
-        self.finish_call(before)
+        self.finish(before)?;
+        Ok(Ok(()))
     }
 
     /// A leader says to every other node that it leads on (own; openraft's leader handler). A node
@@ -239,12 +239,13 @@ impl<C: RaftTypeConfig<NodeId = u64, Node = BasicNode, D = Bytes>> Engine<C> {
         ensures taken { (x : Snapshot) (own at : ℕ) (s : GroupState) → MayTake own self.old s (Call Heartbeat at)
             → IfOk result (λ answer. (answer ≡ Ok tt) × HasTaken x own self.old self.new s (Call Heartbeat at)) }
     {
-        if self.leader.is_none() {
-            return self.send_elsewhere();
+        if let Some(forward) = self.led_elsewhere() {
+            return Ok(Err(forward?));
         }
         let before = self.state.state.committed;
         self.notices()?;
-        self.finish_call(before)
+        self.finish(before)?;
+        Ok(Ok(()))
     }
 
     /// The request on its way to the peer counts as failed (own; openraft's replication handler). A
@@ -259,12 +260,13 @@ impl<C: RaftTypeConfig<NodeId = u64, Node = BasicNode, D = Bytes>> Engine<C> {
         ensures taken { (x : Snapshot) (own at : ℕ) (s : GroupState) → MayTake own self.old s (Call (Lost peer) at)
             → IfOk result (λ answer. (answer ≡ Ok tt) × HasTaken x own self.old self.new s (Call (Lost peer) at)) }
     {
-        if self.leader.is_none() {
-            return self.send_elsewhere();
+        if let Some(forward) = self.led_elsewhere() {
+            return Ok(Err(forward?));
         }
         let before = self.state.state.committed;
         self.lost(peer);
-        self.finish_call(before)
+        self.finish(before)?;
+        Ok(Ok(()))
     }
 
     /// A peer answers a leader's append request or snapshot at this moment, in ticks (own;
@@ -301,7 +303,7 @@ impl<C: RaftTypeConfig<NodeId = u64, Node = BasicNode, D = Bytes>> Engine<C> {
             → OnOk result (HasTaken x own self.old self.new s (Call (TriggerPurge place) at)) }
     {
         let before = self.state.state.committed;
-        self.purge_trigger(place)?;
+        self.log_handler().update_purge_upto(place)?;
         self.finish(before)
     }
 
@@ -311,7 +313,7 @@ impl<C: RaftTypeConfig<NodeId = u64, Node = BasicNode, D = Bytes>> Engine<C> {
             → ((place : ℕ) → r.state.wish ≡ Some place → place < next_place (snapshot_last r.state.stored))
             → OnOk result (IsStepOf x own self.new (purge_as_wished r.state.role r.state.wish r)) }
     {
-        self.purge_as_wished()
+        self.log_handler().purge_log()
     }
 
     /// The node leads no more (openraft), and the runtime is told so. Tokens that are to be told stay
@@ -319,6 +321,6 @@ impl<C: RaftTypeConfig<NodeId = u64, Node = BasicNode, D = Bytes>> Engine<C> {
     pub fn leader_step_down(&mut self) -> Result<(), AllocError>
         ensures { (x : Given) (own : ℕ) (r : StepResult) → IsStepOf x own self.old r → OnOk result (IsStepOf x own self.new (step_down r)) }
     {
-        self.step_down()
+        self.vote_handler().become_following()
     }
 }

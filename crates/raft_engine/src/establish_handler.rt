@@ -1,8 +1,6 @@
 //! Elections: a node stands, asks the others, and counts who grants.
 ghost use Rattle.std.specs.Prelude.{◌≡◌, ◌+◌, ◌<◌, ◌^◌, ◌↔◌, OnOk, IfOk, Ok, Err, None, IsTrue, true, false, List, ℕ, ◌∷◌, []};
-ghost use Rattle.raft_values.specs.LogId.{log_id_of, next_place};
-ghost use Rattle.raft_state.specs.declared.entry.EntryPayload.TheVariants.{Membership as Members};
-ghost use Rattle.raft_group_step.specs.Values.{entry_of};
+ghost use Rattle.raft_values.specs.LogId.{next_place};
 ghost use Rattle.raft_log_ids.specs.LogIdList.{last_id as last_known_id};
 ghost use Rattle.raft_group_step.specs.StoredGroup.{StoredGroup, end_place, last_id};
 ghost use Rattle.raft_group_step.specs.GroupState.{GroupState, Candidate as Standing, is_candidate};
@@ -20,47 +18,13 @@ ghost use Rattle.raft_engine.specs.declared.error.CallError.TheVariants.{NotStan
 use crate::engine::Engine;
 use crate::error::CallError;
 use crate::orders::is_behind;
-use crate::roles::set_candidate;
 use raft_commands::{Command, RaftTypeConfig};
 use raft_group_step::{Entries, VoteRequest, VoteResponse};
-use raft_known_state::KnownState;
 use raft_leaders::Candidate;
 use raft_state::{
     BasicNode, Bytes, EffectiveMembership, Entry, EntryPayload, LeaderId, LogId, Membership, Vote,
 };
-use std::alloc::{AllocError, Global};
-
-// A candidate for this vote, which the node itself has granted.
-fn new_candidate(
-    alloc: Global,
-    known: &KnownState<u64, BasicNode>,
-    own: u64,
-    vote: Vote<u64>,
-    now: u64,
-) -> Result<Candidate<u64, EffectiveMembership<u64, BasicNode>>, AllocError>
-    ensures { (s : StoredGroup) → vote.leader_id.node_id ≡ own → vote.committed ≡ false
-        → IfOk result (λ c. Stands own c (record s { vote = vote }) (own ∷ [])) }
-{
-    let last = known.last_log_id();
-    let membership = known.effective_membership().clone()?;
-    let mut candidate = Candidate::new(alloc, now, vote, last, membership, &[])?;
-    candidate.grant_by(&own)?;
-    Ok(candidate)
-}
-
-// The first entry of a group, which has its membership.
-fn first_entries(
-    alloc: Global,
-    membership: Membership<u64, BasicNode>,
-) -> Result<Entries<u64, BasicNode, Bytes>, AllocError>
-    ensures { IfOk result (λ entries. entries ≡ entry_of (log_id_of 0 0 0) (Members membership) ∷ []) }
-{
-    let log_id = LogId::new(LeaderId::new(0, 0), 0);
-    let payload = EntryPayload::Membership(membership);
-    let mut entries = Entries::new(alloc);
-    entries.push(Entry { log_id, payload })?;
-    Ok(entries)
-}
+use std::alloc::AllocError;
 
 /// Makes a leader of a candidate (openraft).
 #[derive(Drop)]
@@ -102,6 +66,22 @@ impl<C: RaftTypeConfig<NodeId = u64, Node = BasicNode, D = Bytes>> Engine<C> {
         Ok(())
     }
 
+    // A candidate for this vote, which the node itself has granted.
+    fn new_candidate(
+        &self,
+        vote: Vote<u64>,
+        now: u64,
+    ) -> Result<Candidate<u64, EffectiveMembership<u64, BasicNode>>, AllocError>
+        ensures { (s : StoredGroup) → vote.leader_id.node_id ≡ self.now.config.id → vote.committed ≡ false
+            → IfOk result (λ c. Stands self.now.config.id c (record s { vote = vote }) (self.now.config.id ∷ [])) }
+    {
+        let last = self.state.last_log_id();
+        let membership = self.state.effective_membership().clone()?;
+        let mut candidate = Candidate::new(self.alloc, now, vote, last, membership, &[])?;
+        candidate.grant_by(&self.config.id)?;
+        Ok(candidate)
+    }
+
     /// Whether the log has room for one more entry: places are below 2^63 (own).
     pub fn has_room(&self) -> bool
         ensures { IsTrue result ↔ (next_place (last_known_id self.now.state.state.log_ids) < 2 ^ 63) }
@@ -140,11 +120,12 @@ impl<C: RaftTypeConfig<NodeId = u64, Node = BasicNode, D = Bytes>> Engine<C> {
             → OnOk result (IsStepOf x own self.new (in_role (Standing (own ∷ [])) (stand own r))) }
     {
         let own = self.config.id;
+        self.step_down()?;
         let term = self.state.state.vote_ref().leader_id.term.saturating_add(1);
         let vote = Vote::new(term, own);
-        self.change_vote(vote, now)?;
-        let candidate = new_candidate(self.alloc, &self.state, own, vote, now)?;
-        set_candidate(&mut self.candidate, Some(candidate));
+        self.store_vote(vote, now)?;
+        let candidate = self.new_candidate(vote, now)?;
+        self.candidate = Some(candidate);
         let voters = self.state.other_voters(self.alloc, own)?;
         let vote_req = VoteRequest::new(vote, self.state.last_log_id());
         self.ask(voters.as_slice(), vote_req)
@@ -201,8 +182,11 @@ impl<C: RaftTypeConfig<NodeId = u64, Node = BasicNode, D = Bytes>> Engine<C> {
             → is_new r.state.stored ≡ true
             → OnOk result (IsStepOf x own self.new (initialize_step own membership r)) }
     {
-        let entries = first_entries(self.alloc, membership)?;
         self.step_down()?;
+        let log_id = LogId::new(LeaderId::new(0, 0), 0);
+        let payload = EntryPayload::Membership(membership);
+        let mut entries = Entries::new(self.alloc);
+        entries.push(Entry { log_id, payload })?;
         self.put_entries(entries)?;
         self.elect_part(now)
     }

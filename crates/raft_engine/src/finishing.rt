@@ -1,5 +1,5 @@
 //! The end of an event: a leader commits, purges as wished, and sends; the node's part is noted.
-ghost use Rattle.std.specs.Prelude.{◌≡◌, IfOk, OnOk, Ok, ℕ, [], false};
+ghost use Rattle.std.specs.Prelude.{◌≡◌, OnOk, ℕ, [], false};
 ghost use Rattle.raft_values.specs.LogId.{place_of};
 ghost use Rattle.raft_group_step.specs.GroupState.{GroupState};
 ghost use Rattle.raft_group_step.specs.StepResult.{StepResult};
@@ -41,20 +41,6 @@ impl<C: RaftTypeConfig<NodeId = u64, Node = BasicNode, D = Bytes>> Engine<C> {
         self.purge_as_wished()?;
         self.note_part();
         self.with_frames(before.index())
-    }
-
-    // The same at the end of a call that could have been refused.
-    pub(crate) fn finish_call<E>(
-        &mut self,
-        before: Option<LogId<u64>>,
-    ) -> Result<Result<(), E>, AllocError>
-        ensures heard { OnOk result (KeepsHeard self.old.leader self.new.leader) }
-        ensures which { IfOk result (λ answer. answer ≡ Ok tt) }
-        ensures step { (x : Given) (own : _) (r : StepResult) → IsStepOf x own self.old r → CanFinish own r.state r.state.role
-            → OnOk result (IsWholeStepOf x own self.new (finished own (place_of before) r)) }
-    {
-        self.finish(before)?;
-        Ok(Ok(()))
     }
 
     /// The runtime has done what the queue asks for, or has given it up (own): nothing is queued

@@ -1,7 +1,6 @@
 //! Following: entries and places that a leader sends.
 ghost use Rattle.std.specs.Prelude.{◌≡◌, ◌≢◌, ◌≤◌, ◌<◌, ◌^◌, ◌==◌, ℕ, OnOk, IfOk, Ok, Err, true, false, length, drop, nat_le, Some, None};
 ghost use Rattle.raft_values.specs.LogId.{next_place, place_of};
-ghost use Rattle.raft_log_ids.specs.LogIdList.{AllGoOn, last_id};
 ghost use Rattle.raft_group_step.specs.StoredGroup.{StoredGroup, end_place};
 ghost use Rattle.raft_group_step.specs.GroupState.{Follower};
 ghost use Rattle.raft_group_step.specs.StepResult.{StepResult, apply_up_to, is_within};
@@ -9,11 +8,10 @@ ghost use Rattle.raft_group_step.specs.Message.{AppendFields, ReplyResult};
 ghost use Rattle.raft_group_step.specs.AppendRequest.{above_committed, append_request_step, cut_at, cut_from, is_held, joined, lesser_place, missing_entries, put_entries, reply_append};
 ghost use Rattle.raft_group_step.specs.Refusal.{do_follow};
 ghost use Rattle.raft_group_step.specs.SnapshotRequest.{install_unless};
-ghost use Rattle.raft_known_state.specs.KnownState.{ArePlaced, IsPlaced, Knows, entry_ids, meta_of};
+ghost use Rattle.raft_known_state.specs.KnownState.{ArePlaced, IsPlaced, Knows, meta_of};
 ghost use Rattle.raft_messages.specs.Messages.{outcome_of};
 ghost use Rattle.raft_engine.specs.Clock.{KeepsHeard};
 ghost use Rattle.raft_engine.specs.Numbering.{KeepsNumbers, NumbersRise};
-ghost use Rattle.raft_engine.specs.Putting.{PutsBehind};
 ghost use Rattle.raft_engine.specs.Standing.{Given, IsStateOf, IsStepOf, basis_of};
 ghost use Rattle.raft_engine.specs.Ordering.{OutcomeRestsOn};
 ghost use Rattle.raft_engine.specs.Following.{EndsWithin, IsVoteOfAnother, SpellsAppend, SpellsAppendReply, follow_one_another, is_behind_log, join_log, unheld_entries};
@@ -28,7 +26,7 @@ use raft_group_step::{AppendEntriesRequest, AppendEntriesResponse, Entries};
 use raft_known_state::KnownState;
 use raft_messages::all_go_on;
 use raft_state::{
-    BasicNode, Bytes, Entry, LogId, LogIdOptionExt, RaftLogId, SnapshotMeta, Vote, VoteStateReader,
+    BasicNode, Bytes, Entry, LogId, LogIdOptionExt, RaftLogId, SnapshotMeta, VoteStateReader,
 };
 use std::alloc::AllocError;
 
@@ -158,7 +156,6 @@ impl<'x, C: RaftTypeConfig<NodeId = u64, Node = BasicNode, D = Bytes>> Following
             × IsStepOf x own self.new.engine.now (put_entries (missing_entries r.state.stored (above_committed r.state.committed entries)) r)) }
     {
         if !self.engine.is_joined_by(entries.as_slice()) {
-            drop(entries);
             return Ok(Err(CallError::GapInEntries));
         }
         self.engine.put_missing(entries)?;
@@ -288,21 +285,6 @@ impl<C: RaftTypeConfig<NodeId = u64, Node = BasicNode, D = Bytes>> Engine<C> {
         }
     }
 
-    // The entries stand behind the log, and are to be stored under this vote.
-    pub(crate) fn put(
-        &mut self,
-        vote: Vote<u64>,
-        entries: Entries<u64, BasicNode, Bytes>,
-    ) -> Result<(), AllocError>
-        requires { AllGoOn (last_id self.old.state.state.log_ids) (entry_ids entries) }
-        ensures leader { self.new.leader ≡ self.old.leader }
-        ensures put { OnOk result (PutsBehind vote entries self.old self.new) }
-    {
-        self.state.append(entries.as_slice())?;
-        self.output
-            .push_command(Command::AppendInputEntries { vote, entries })
-    }
-
     // The entries are appended under the vote in force, after the log was shortened where another
     // entry stands. Entries that don't go on behind the log are left out; such a request is refused before.
     pub(crate) fn put_entries(
@@ -315,17 +297,17 @@ impl<C: RaftTypeConfig<NodeId = u64, Node = BasicNode, D = Bytes>> Engine<C> {
             → OnOk result (IsStepOf x own self.new (put_entries entries r)) }
     {
         let Some(first) = entries.as_slice().first() else {
-            drop(entries);
             return Ok(());
         };
         self.cut_from(first.log_id.index)?;
         let last = self.state.state.log_ids.last().copied();
         if !all_go_on(last, entries.as_slice()) {
-            drop(entries);
             return Ok(());
         }
+        self.state.append(entries.as_slice())?;
         let vote = *self.state.state.vote_ref();
-        self.put(vote, entries)
+        self.output
+            .push_command(Command::AppendInputEntries { vote, entries })
     }
 
     // The entries from the first one on that the log doesn't have are appended.

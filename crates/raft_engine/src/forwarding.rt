@@ -1,5 +1,5 @@
 //! Who is known to lead, and what a caller gets of an engine that doesn't.
-ghost use Rattle.std.specs.Prelude.{◌≡◌, IfOk, IfErr, Err, is_some};
+ghost use Rattle.std.specs.Prelude.{◌≡◌, IfOk, IfErr, IfSome, is_some, not};
 ghost use Rattle.std.specs.Result.{is_ok};
 ghost use Rattle.std.specs.Borrow.{sem};
 ghost use Rattle.raft_engine.specs.Forwarding.{forward_of};
@@ -43,14 +43,17 @@ impl<C: RaftTypeConfig> Engine<C> {
         })
     }
 
-    // What a leader's call answers where another node is to be asked.
-    pub(crate) fn send_elsewhere(
+    // Who is to be asked, where the node doesn't lead.
+    pub(crate) fn led_elsewhere(
         &self,
-    ) -> Result<Result<(), ForwardToLeader<C::NodeId, C::Node>>, AllocError>
-        ensures { IfOk result (λ answer. answer ≡ Err (forward_of C.NodeId.eq self.now.state)) }
+    ) -> Option<Result<ForwardToLeader<C::NodeId, C::Node>, AllocError>>
+        ensures leads { is_some result ≡ not (is_some self.now.leader) }
+        ensures forward { IfSome result (λ answer. IfOk answer (λ forward. forward ≡ forward_of C.NodeId.eq self.now.state)) }
     {
-        let forward = self.forward_to_leader()?;
-        Ok(Err(forward))
+        if self.leader.is_some() {
+            return None;
+        }
+        Some(self.forward_to_leader())
     }
 
     /// Who writes and speaks for the node (openraft), with the caller's token, if the node leads.

@@ -1,8 +1,8 @@
 //! Leading: how a lead begins, and what a leader writes.
-ghost use Rattle.std.specs.Prelude.{◌≡◌, ◌+◌, ◌<◌, ◌^◌, ℕ, OnOk, IfOk, IsTrue, ◌↔◌, true, false, Some, None, List, [], ◌∷◌, Option};
+ghost use Rattle.std.specs.Prelude.{◌≡◌, ◌+◌, ◌<◌, ◌^◌, ℕ, OnOk, IfOk, IsTrue, ◌↔◌, true, false, Some, None, List, [], Option};
 ghost use Rattle.raft_values.specs.LogId.{next_place};
 ghost use Rattle.raft_log_ids.specs.LogIdList.{last_id};
-ghost use Rattle.raft_group_step.specs.Values.{ChangeMembers, LoggedMembership, after_change, entry_of, is_written_by, membership_after};
+ghost use Rattle.raft_group_step.specs.Values.{ChangeMembers, LoggedMembership, after_change, is_written_by, membership_after};
 ghost use Rattle.std.specs.List.{list_any};
 ghost use Rattle.raft_group_step.specs.StoredGroup.{StoredGroup, end_place, membership_in_force};
 ghost use Rattle.raft_group_step.specs.Propose.{propose_step};
@@ -18,16 +18,13 @@ ghost use Rattle.raft_engine.specs.Standing.{Given, IsStepOf, Leads};
 ghost use Rattle.raft_engine.specs.Turns.{MayLead};
 ghost use Rattle.raft_engine.specs.Clock.{HasHeardOfNobody, KeepsHeard, KeepsHeardOrBegins, heard_at};
 ghost use Rattle.raft_engine.specs.Leading.{CountsOn, KnowsMembers, leads_by};
-ghost use Rattle.raft_engine.specs.Putting.{next_id};
 ghost use Rattle.std.specs.Prelude.{nat_eq};
 ghost use Rattle.std.specs.Option.{option_copied};
 
 use crate::engine::Engine;
 use crate::replication_handler::place_after;
-use crate::roles::{set_candidate, set_leader};
 use raft_commands::{Command, RaftTypeConfig};
 use raft_group_step::Entries;
-use raft_known_state::KnownState;
 use raft_leaders::{Leader, greatest_accepted};
 use raft_state::{
     BasicNode, Bytes, EffectiveMembership, Entry, EntryPayload, LogId, LogIdOptionExt, Membership,
@@ -84,28 +81,6 @@ fn count_by_entry(
     leader.change_membership(alloc, effective, learner_ids.as_slice())
 }
 
-// The leader's next entry, by whose membership it counts, if it has one.
-fn next_entries(
-    alloc: Global,
-    leader: &mut Leader<u64, EffectiveMembership<u64, BasicNode>>,
-    payload: EntryPayload<u64, BasicNode, Bytes>,
-) -> Result<Entries<u64, BasicNode, Bytes>, AllocError>
-    requires { next_place leader.old.last_log_id < 2 ^ 63 }
-    ensures entries { IfOk result (λ entries. entries ≡ entry_of (next_id leader.old) payload ∷ []) }
-    ensures members { (before : Option LoggedMembership) → KnowsMembers leader.old before
-        → OnOk result (KnowsMembers leader.new (membership_after before (next_id leader.old) payload)) }
-    ensures peers { OnOk result ((n : ℕ) → peer_at nat_eq leader.new n ≡ peer_at nat_eq leader.old n) }
-    ensures heard { OnOk result ((n : ℕ) → heard_at leader.new n ≡ heard_at leader.old n) }
-    ensures rest { OnOk result (leader.new ≡ record leader.old { last_log_id = Some (next_id leader.old); progress = leader.new.progress; clock_progress = leader.new.clock_progress }) }
-{
-    let log_id = next_log_id(leader);
-    let entry = Entry { log_id, payload };
-    count_by_entry(alloc, leader, &entry)?;
-    let mut entries = Entries::new(alloc);
-    entries.push(entry)?;
-    Ok(entries)
-}
-
 // A leader counts by this membership, if there is a leader. What is known of each peer stays.
 fn count_by(
     alloc: Global,
@@ -140,41 +115,6 @@ pub(crate) fn count_if(
     Ok(())
 }
 
-// A lead that begins under this vote: of no peer anything is known yet. It looks for its first
-// entry among all its own keys: an own run may stand before another leader's.
-fn new_leader(
-    alloc: Global,
-    known: &KnownState<u64, BasicNode>,
-    vote: Vote<u64>,
-) -> Result<Leader<u64, EffectiveMembership<u64, BasicNode>>, AllocError>
-    requires { next_place (last_id known.now.state.log_ids) < 2 ^ 63 }
-    ensures heard { IfOk result (λ l. HasHeardOfNobody (Some l)) }
-    ensures leads { (own : _) (s : StoredGroup) → Knows known.now s → IsPlaced s → vote.leader_id.node_id ≡ own → vote.committed ≡ true
-        → IfOk result (λ l. Leads own l (record s { vote = vote }) (new_lead s)) }
-{
-    let membership = known.effective_membership().clone()?;
-    let learner_ids = membership.membership().learner_ids()?;
-    let keys = known.keys_of_leader(&vote.leader_id);
-    Leader::new(alloc, vote, membership, learner_ids.as_slice(), keys)
-}
-
-// A lead begins in this place, under this vote.
-fn begin_under(
-    alloc: Global,
-    known: &KnownState<u64, BasicNode>,
-    vote: Vote<u64>,
-    place: &mut Option<Leader<u64, EffectiveMembership<u64, BasicNode>>>,
-) -> Result<(), AllocError>
-    requires { next_place (last_id known.now.state.log_ids) < 2 ^ 63 }
-    ensures heard { OnOk result (HasHeardOfNobody place.new) }
-    ensures leads { (own : _) (s : StoredGroup) → Knows known.now s → IsPlaced s → vote.leader_id.node_id ≡ own → vote.committed ≡ true
-        → OnOk result ((l : _) × (place.new ≡ Some l) × Leads own l (record s { vote = vote }) (new_lead s)) }
-{
-    let leader = new_leader(alloc, known, vote)?;
-    set_leader(place, Some(leader));
-    Ok(())
-}
-
 /// Writes and speaks for a node that leads (openraft).
 #[derive(Drop)]
 pub struct LeaderHandler<'x, C: RaftTypeConfig> {
@@ -206,6 +146,23 @@ impl<'x, C: RaftTypeConfig<NodeId = u64, Node = BasicNode, D = Bytes>> LeaderHan
 }
 
 impl<C: RaftTypeConfig<NodeId = u64, Node = BasicNode, D = Bytes>> Engine<C> {
+    // A lead that begins under this vote: of no peer anything is known yet. It looks for its first
+    // entry among all its own keys: an own run may stand before another leader's.
+    fn new_leader(
+        &self,
+        vote: Vote<u64>,
+    ) -> Result<Leader<u64, EffectiveMembership<u64, BasicNode>>, AllocError>
+        requires { next_place (last_id self.now.state.state.log_ids) < 2 ^ 63 }
+        ensures heard { IfOk result (λ l. HasHeardOfNobody (Some l)) }
+        ensures leads { (own : _) (s : StoredGroup) → Knows self.now.state s → IsPlaced s → vote.leader_id.node_id ≡ own → vote.committed ≡ true
+            → IfOk result (λ l. Leads own l (record s { vote = vote }) (new_lead s)) }
+    {
+        let membership = self.state.effective_membership().clone()?;
+        let learner_ids = membership.membership().learner_ids()?;
+        let keys = self.state.keys_of_leader(&vote.leader_id);
+        Leader::new(self.alloc, vote, membership, learner_ids.as_slice(), keys)
+    }
+
     // The entry goes behind the log, under the vote's leader, and the leader counts by its
     // membership. A leader whose last log id isn't the log's writes nothing.
     pub(crate) fn append(
@@ -218,16 +175,20 @@ impl<C: RaftTypeConfig<NodeId = u64, Node = BasicNode, D = Bytes>> Engine<C> {
             → OnOk result (IsStepOf x own self.new (append payload r)) }
     {
         let Some(leader) = &mut self.leader else {
-            drop(payload);
             return Ok(());
         };
         if !share_place(leader.last_log_id(), self.state.state.log_ids.last()) {
-            drop(payload);
             return Ok(());
         }
+        let log_id = next_log_id(leader);
         let vote = *leader.vote_ref();
-        let entries = next_entries(self.alloc, leader, payload)?;
-        self.put(vote, entries)
+        let entry = Entry { log_id, payload };
+        count_by_entry(self.alloc, leader, &entry)?;
+        let mut entries = Entries::new(self.alloc);
+        entries.push(entry)?;
+        self.state.append(entries.as_slice())?;
+        self.output
+            .push_command(Command::AppendInputEntries { vote, entries })
     }
 
     // Whether the leader has written an entry of the log. Where its first entry is the next one it
@@ -269,10 +230,11 @@ impl<C: RaftTypeConfig<NodeId = u64, Node = BasicNode, D = Bytes>> Engine<C> {
     {
         let mut vote = *self.state.state.vote_ref();
         vote.committed = true;
-        begin_under(self.alloc, &self.state, vote, &mut self.leader)?;
-        set_candidate(&mut self.candidate, None);
+        let leader = self.new_leader(vote)?;
         self.state.save_vote(now, vote);
         self.output.push_command(Command::SaveVote { vote })?;
+        self.candidate = None;
+        self.leader = Some(leader);
         self.output.push_command(Command::BecomeLeader)?;
         self.append_blank()
     }
@@ -289,7 +251,8 @@ impl<C: RaftTypeConfig<NodeId = u64, Node = BasicNode, D = Bytes>> Engine<C> {
         if !leads_on || !self.has_room() {
             return Ok(());
         }
-        begin_under(self.alloc, &self.state, vote, &mut self.leader)?;
+        let leader = self.new_leader(vote)?;
+        self.leader = Some(leader);
         self.output.push_command(Command::BecomeLeader)
     }
 

@@ -1,21 +1,18 @@
 //! A node starts with what it has stored.
-ghost use Rattle.std.specs.Prelude.{◌≡◌, ℕ, IfOk, OnOk, None};
+ghost use Rattle.std.specs.Prelude.{IfOk, None};
 ghost use Rattle.raft_group_step.specs.StoredGroup.{Snapshot};
 ghost use Rattle.raft_group_step.specs.GroupState.{GroupState};
 ghost use Rattle.raft_group_step.specs.GroupStep.{finished};
 ghost use Rattle.raft_group_step.specs.Opening.{resume_lead};
 ghost use Rattle.raft_group_step.specs.StepResult.{unchanged};
-ghost use Rattle.raft_commands.specs.Config.{config_of};
-ghost use Rattle.raft_known_state.specs.KnownState.{KnownState as Known};
-ghost use Rattle.raft_engine.specs.Beginning.{BeginsWith};
-ghost use Rattle.raft_engine.specs.Clock.{HasHeardOfNobody, KeepsHeardOrBegins};
+ghost use Rattle.raft_engine.specs.Clock.{HasHeardOfNobody};
 ghost use Rattle.raft_engine.specs.Opening.{OpensAs, given_at_opening};
 ghost use Rattle.raft_engine.specs.Standing.{IsWholeStepOf};
 
 use crate::engine::Engine;
 use raft_commands::RaftTypeConfig;
 use raft_known_state::KnownState;
-use raft_state::{BasicNode, Bytes, LogId};
+use raft_state::{BasicNode, Bytes};
 use std::alloc::{AllocError, Global};
 
 impl<C: RaftTypeConfig<NodeId = u64, Node = BasicNode, D = Bytes>> Engine<C> {
@@ -35,23 +32,8 @@ impl<C: RaftTypeConfig<NodeId = u64, Node = BasicNode, D = Bytes>> Engine<C> {
     {
         let covered = known.state.snapshot_meta.last_log_id;
         let mut engine = Engine::of_node(alloc, known, id);
-        match engine.start_behind(covered) {
-            Ok(()) => Ok(engine),
-            Err(failed) => {
-                drop(engine);
-                Err(failed)
-            }
-        }
-    }
-
-    // What the stored snapshot covers is committed, and the node starts.
-    fn start_behind(&mut self, covered: Option<LogId<u64>>) -> Result<(), AllocError>
-        ensures heard { OnOk result (KeepsHeardOrBegins self.old.leader self.new.leader) }
-        ensures opened { (x : Snapshot) (own : ℕ) (s : GroupState) (known : Known) → OpensAs own known s
-            → self.old.config ≡ config_of own → BeginsWith known self.old → covered ≡ known.state.snapshot_meta.last_log_id
-            → OnOk result (IsWholeStepOf (given_at_opening x s) own self.new (finished own None (resume_lead own (unchanged s)))) }
-    {
-        self.state.commit(covered)?;
-        self.startup()
+        engine.state.commit(covered)?;
+        engine.startup()?;
+        Ok(engine)
     }
 }

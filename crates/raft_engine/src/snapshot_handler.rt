@@ -1,12 +1,11 @@
 //! Snapshots that the state machine builds, and those that a leader sends.
 ghost use Rattle.std.specs.Prelude.{◌≡◌, ◌≤◌, ◌<◌, ◌+◌, ◌^◌, ℕ, OnOk, IfOk, Ok, true, false, Some, None};
-ghost use Rattle.raft_values.specs.declared.log_id.LogId.{LogId as Id};
-ghost use Rattle.raft_values.specs.LogId.{next_place, place_of, stands_before};
-ghost use Rattle.raft_group_step.specs.StoredGroup.{Snapshot, StoredGroup, RemoveUpTo, SetSnapshot, after_storing, first_place};
+ghost use Rattle.raft_values.specs.LogId.{next_place, stands_before};
+ghost use Rattle.raft_group_step.specs.StoredGroup.{Snapshot, StoredGroup, RemoveUpTo, SetSnapshot, after_storing};
 ghost use Rattle.raft_group_step.specs.GroupState.{Follower};
 ghost use Rattle.raft_group_step.specs.StepResult.{StepResult, apply_up_to, is_within, store};
 ghost use Rattle.raft_group_step.specs.SnapshotRequest.{cut_other, install_unless, reply_snapshot, snapshot_request_step};
-ghost use Rattle.raft_known_state.specs.KnownState.{IsEntryOrPast, IsPlaced, KeepsRest, KnownState as Known, Knows, meta_of, with_committed};
+ghost use Rattle.raft_known_state.specs.KnownState.{IsEntryOrPast, KeepsRest, Knows, meta_of};
 ghost use Rattle.raft_engine.specs.Building.{asking, covered_id, is_building};
 ghost use Rattle.raft_engine.specs.Clock.{KeepsHeard};
 ghost use Rattle.raft_engine.specs.Commands.{snapshot_result};
@@ -20,48 +19,9 @@ use crate::following_handler::is_committed;
 use crate::orders::is_lower;
 use raft_commands::{Caller, Command, RaftTypeConfig, Respond, ValueSender, sm};
 use raft_group_step::SnapshotResponse;
-use raft_known_state::KnownState;
 use raft_state::{BasicNode, Bytes, LogId, SnapshotMeta, Vote, VoteStateReader};
 use raft_values::log_id_option_ext::stands_before;
 use std::alloc::AllocError;
-
-// The snapshot is stored. Gives what is known of it once more, for the state machine.
-fn save_copied(
-    known: &mut KnownState<u64, BasicNode>,
-    meta: SnapshotMeta<u64, BasicNode>,
-) -> Result<SnapshotMeta<u64, BasicNode>, AllocError>
-    ensures copied { IfOk result (λ copy. copy ≡ meta) }
-    ensures known { (s : StoredGroup) (x : Snapshot) → Knows known.old s → meta ≡ meta_of (Some x)
-        → OnOk result (Knows known.new (after_storing (SetSnapshot x) s)) }
-    ensures rest { OnOk result (KeepsRest known.old known.new) }
-{
-    let copy = meta.clone()?;
-    known.save_snapshot(meta)?;
-    Ok(copy)
-}
-
-// The log goes up to this log id, which is committed.
-fn cover_up_to(known: &mut KnownState<u64, BasicNode>, last: LogId<u64>) -> Result<(), AllocError>
-    requires { last.index + 1 < 2 ^ 64 }
-    ensures known { (s : StoredGroup) → Knows known.old s → IsPlaced s → first_place s ≤ last.index → IsEntryOrPast s last
-        → OnOk result (Knows known.new (after_storing (RemoveUpTo last) s)) }
-    ensures rest { OnOk result ((purged : Known) × KeepsRest known.old purged × (known.new ≡ with_committed purged (Some last) known.new.state.membership_state)) }
-{
-    known.purge(&last)?;
-    known.commit(Some(last))
-}
-
-// The log id, unless it is committed.
-fn uncommitted(known: &KnownState<u64, BasicNode>, log_id: Option<LogId<u64>>) -> Option<LogId<u64>>
-    ensures some { (last : Id ℕ) → result ≡ Some last → (log_id ≡ Some last) × (is_within last.index (place_of known.now.state.committed) ≡ false) }
-    ensures none { (last : Id ℕ) → result ≡ None → log_id ≡ Some last → is_within last.index (place_of known.now.state.committed) ≡ true }
-{
-    let last = log_id?;
-    if is_committed(known, last.index) {
-        return None;
-    }
-    Some(last)
-}
 
 /// Takes care of the node's snapshots (openraft).
 #[derive(Drop)]
@@ -81,7 +41,20 @@ impl<'x, C: RaftTypeConfig<NodeId = u64, Node = BasicNode, D = Bytes>> SnapshotH
         ensures asked { is_building self.old.engine.now ≡ false → stands_before (covered_id self.old.engine.now) self.old.engine.now.state.state.committed ≡ true
             → IfOk result (λ asked. (asked ≡ true) × (self.new.engine.now ≡ asking self.old.engine.now)) }
     {
-        self.engine.ask_for_snapshot()
+        let state = &mut self.engine.state.state;
+        if state.io_state.building_snapshot() {
+            return Ok(false);
+        }
+        if !stands_before(&state.snapshot_meta.last_log_id, &state.committed) {
+            return Ok(false);
+        }
+        let seq = self.engine.output.next_sm_seq();
+        let command = sm::Command::build_snapshot().with_seq(seq);
+        self.engine
+            .output
+            .push_command(Command::StateMachine { command })?;
+        self.engine.state.state.io_state.set_building_snapshot(true);
+        Ok(true)
     }
 
     /// A snapshot that was built or came is the node's last one from now on (openraft), if it goes
@@ -98,56 +71,16 @@ impl<'x, C: RaftTypeConfig<NodeId = u64, Node = BasicNode, D = Bytes>> SnapshotH
         ensures rest { OnOk result (KeepsRest self.old.engine.now.state self.new.engine.now.state
             × (self.new.engine.now ≡ record self.old.engine.now { state = self.new.engine.now.state })) }
     {
-        self.engine.update_snapshot(meta)
+        let last = &self.engine.state.state.snapshot_meta.last_log_id;
+        if !stands_before(last, &meta.last_log_id) {
+            return Ok(false);
+        }
+        self.engine.state.save_snapshot(meta)?;
+        Ok(true)
     }
 }
 
 impl<C: RaftTypeConfig<NodeId = u64, Node = BasicNode, D = Bytes>> Engine<C> {
-    // The state machine is to build a snapshot, unless it does, or nothing new is applied. Says
-    // whether it is to.
-    pub(crate) fn ask_for_snapshot(&mut self) -> Result<bool, AllocError>
-        ensures leader { self.new.leader ≡ self.old.leader }
-        ensures busy { is_building self.old ≡ true → (result ≡ Ok false) × (self.new ≡ self.old) }
-        ensures none_new { stands_before (covered_id self.old) self.old.state.state.committed ≡ false → (result ≡ Ok false) × (self.new ≡ self.old) }
-        ensures asked { is_building self.old ≡ false → stands_before (covered_id self.old) self.old.state.state.committed ≡ true
-            → IfOk result (λ asked. (asked ≡ true) × (self.new ≡ asking self.old)) }
-    {
-        let state = &self.state.state;
-        if state.io_state.building_snapshot() {
-            return Ok(false);
-        }
-        if !stands_before(&state.snapshot_meta.last_log_id, &state.committed) {
-            return Ok(false);
-        }
-        let seq = self.output.next_sm_seq();
-        let build = sm::Command::build_snapshot().with_seq(seq);
-        self.output
-            .push_command(Command::StateMachine { command: build })?;
-        self.state.state.io_state.set_building_snapshot(true);
-        Ok(true)
-    }
-
-    // The snapshot is the node's last one from now on, if it goes past the one before. Says whether
-    // it does.
-    pub(crate) fn update_snapshot(
-        &mut self,
-        meta: SnapshotMeta<u64, BasicNode>,
-    ) -> Result<bool, AllocError>
-        ensures ignored { stands_before (covered_id self.old) meta.last_log_id ≡ false → (result ≡ Ok false) × (self.new ≡ self.old) }
-        ensures which { IfOk result (λ updated. updated ≡ stands_before (covered_id self.old) meta.last_log_id) }
-        ensures known { (s : StoredGroup) (x : Snapshot) → Knows self.old.state s → meta ≡ meta_of (Some x)
-            → IfOk result (λ updated. updated ≡ true → Knows self.new.state (after_storing (SetSnapshot x) s)) }
-        ensures rest { OnOk result (KeepsRest self.old.state self.new.state × (self.new ≡ record self.old { state = self.new.state })) }
-    {
-        let last = &self.state.state.snapshot_meta.last_log_id;
-        if !stands_before(last, &meta.last_log_id) {
-            drop(meta);
-            return Ok(false);
-        }
-        self.state.save_snapshot(meta)?;
-        Ok(true)
-    }
-
     // Where another entry stands at the snapshot's place, what isn't committed goes.
     fn cut_other(&mut self, last: LogId<u64>) -> Result<(), AllocError>
         requires { last.index + 1 < 2 ^ 64 }
@@ -178,11 +111,13 @@ impl<C: RaftTypeConfig<NodeId = u64, Node = BasicNode, D = Bytes>> Engine<C> {
             → is_within last.index r.state.committed ≡ false → IsEntryOrPast r.state.stored last
             → OnOk result (IsStepOf x own self.new (apply_up_to (Some last.index) (store (RemoveUpTo last) (store (SetSnapshot x.snapshot) r)))) }
     {
-        let copy = save_copied(&mut self.state, meta)?;
+        let copy = meta.clone()?;
+        self.state.save_snapshot(meta)?;
         let seq = self.output.next_sm_seq();
         let command = sm::Command::install_full_snapshot(copy).with_seq(seq);
         self.output.push_command(Command::StateMachine { command })?;
-        cover_up_to(&mut self.state, last)?;
+        self.state.purge(&last)?;
+        self.state.commit(Some(last))?;
         self.output.push_command(Command::PurgeLog { upto: last })
     }
 
@@ -194,10 +129,12 @@ impl<C: RaftTypeConfig<NodeId = u64, Node = BasicNode, D = Bytes>> Engine<C> {
         ensures step { (x : Given) (own : _) (r : StepResult) → IsStepOf x own self.old r → r.state.role ≡ Follower → meta ≡ meta_of (Some x.snapshot)
             → OnOk result (IsStepOf x own self.new (install_unless (is_within x.snapshot.last.index r.state.committed) x.snapshot r)) }
     {
-        let Some(last) = uncommitted(&self.state, meta.last_log_id) else {
-            drop(meta);
+        let Some(last) = meta.last_log_id else {
             return Ok(());
         };
+        if is_committed(&self.state, last.index) {
+            return Ok(());
+        }
         self.cut_other(last)?;
         self.put_snapshot(meta, last)
     }
@@ -231,7 +168,6 @@ impl<C: RaftTypeConfig<NodeId = u64, Node = BasicNode, D = Bytes>> Engine<C> {
     {
         let is_lower = is_lower(&vote, self.state.state.vote_ref());
         if is_lower {
-            drop(meta);
             return self.answer_snapshot(tx);
         }
         self.take_over(vote, now)?;

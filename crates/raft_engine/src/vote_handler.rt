@@ -10,7 +10,6 @@ ghost use Rattle.raft_engine.specs.Standing.{Given, IsStateOf, IsStepOf};
 
 use crate::engine::Engine;
 use crate::orders::{is_behind, is_lower};
-use crate::roles::{set_candidate, set_leader};
 use raft_commands::{Caller, Command, RaftTypeConfig, Respond, ValueSender};
 use raft_group_step::{VoteRequest, VoteResponse};
 use raft_state::{BasicNode, Bytes, Vote};
@@ -68,12 +67,11 @@ impl<C: RaftTypeConfig<NodeId = u64, Node = BasicNode, D = Bytes>> Engine<C> {
         ensures step { (x : Given) (own : _) (r : StepResult) → IsStepOf x own self.old r → OnOk result (IsStepOf x own self.new (step_down r)) }
     {
         self.state.set_wish(None);
-        let has_led = self.leader.is_some();
-        set_leader(&mut self.leader, None);
-        set_candidate(&mut self.candidate, None);
-        if has_led {
-            return self.output.push_command(Command::QuitLeader);
+        if self.leader.is_some() {
+            self.output.push_command(Command::QuitLeader)?;
         }
+        self.leader = None;
+        self.candidate = None;
         Ok(())
     }
 
@@ -87,17 +85,6 @@ impl<C: RaftTypeConfig<NodeId = u64, Node = BasicNode, D = Bytes>> Engine<C> {
         self.output.push_command(Command::SaveVote { vote })
     }
 
-    // The node steps down, and the vote is in force from now on.
-    pub(crate) fn change_vote(&mut self, vote: Vote<u64>, now: u64) -> Result<(), AllocError>
-        ensures ends { OnOk result (self.new.leader ≡ None) }
-        ensures heard { OnOk result (KeepsHeard self.old.leader self.new.leader) }
-        ensures step { (x : Given) (own : _) (r : StepResult) → IsStepOf x own self.old r → r.state.now ≡ now
-            → OnOk result (IsStepOf x own self.new (store_vote vote (step_down r))) }
-    {
-        self.step_down()?;
-        self.store_vote(vote, now)
-    }
-
     // A vote that isn't below the own one is in force from now on; a greater one is stored.
     pub(crate) fn take_over(&mut self, vote: Vote<u64>, now: u64) -> Result<(), AllocError>
         ensures level { vote_lt self.old.state.state.vote.value vote ≡ false → (result ≡ Ok tt) × (self.new.output ≡ self.old.output) }
@@ -106,7 +93,8 @@ impl<C: RaftTypeConfig<NodeId = u64, Node = BasicNode, D = Bytes>> Engine<C> {
             → OnOk result (IsStepOf x own self.new (take_over vote r)) }
     {
         if is_lower(self.state.state.vote_ref(), &vote) {
-            return self.change_vote(vote, now);
+            self.step_down()?;
+            return self.store_vote(vote, now);
         }
         self.state.state.vote.touch(now);
         Ok(())
@@ -119,7 +107,8 @@ impl<C: RaftTypeConfig<NodeId = u64, Node = BasicNode, D = Bytes>> Engine<C> {
             → OnOk result (IsStepOf x own self.new (take_over_greater vote r)) }
     {
         if is_lower(self.state.state.vote_ref(), &vote) {
-            return self.change_vote(vote, now);
+            self.step_down()?;
+            return self.store_vote(vote, now);
         }
         Ok(())
     }

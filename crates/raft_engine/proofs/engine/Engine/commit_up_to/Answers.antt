@@ -1,13 +1,11 @@
 -- The place has an entry, and it is committed.
-use Rattle.std.proofs.Common.{◌≡◌, ◌++◌, ◌∙◌, ap, inl, inr, sym, refl, false, None}
+use Rattle.std.proofs.Common.{◌≡◌, ◌++◌, ◌∙◌, ap, sym, refl, false, None}
 use Rattle.std.specs.Prelude.{Some, [], ◌∷◌}
 use Rattle.std.proofs.lemmas.Result.{on_ok_weaker}
 use Rattle.raft_commands.specs.declared.command.Command.TheVariants.{Commit}
 use Rattle.raft_commands.specs.Output.{Output}
 use Rattle.raft_group_step.specs.StoredGroup.{id_at}
 use Rattle.raft_group_step.specs.StepResult.{is_within}
-use Rattle.raft_engine.specs.Numbering.{numbers_in}
-use Rattle.raft_engine.proofs.CommandLemmas.{numbers_more}
 use Rattle.raft_engine.proofs.PlacedEntries.{has_entry, in_log_of_id}
 use Rattle.raft_engine.proofs.FollowingLemmas.{above_first, committed_place, more_committed}
 use Rattle.raft_engine.proofs.engine.Engine.commit_up_to.Goals as goal
@@ -33,28 +31,4 @@ returns-clause-step g c = λ x own r step within.
     found
     (h ∙ ap (λ (o : Output _ _ _ _ _). record o { queue = o.queue ++ commit ∷ [] }) c.next_sm_seq-seq.ensures.rest) refl (ap (λ n. n ∷ []) c.next_sm_seq-seq.ensures.value) refl tt
     (in_log_of_id r.state.stored c.in-Some.place c.in-Some-get_log_id.upto order.placed (above_first r.state order c.in-Some.place past) (within c.in-Some.place c.in-Some.is) found) refl refl (λ s upto. refl)))
-    c.push_command.ensures.ok
-
-pub returns-in_default-clause-numbers : goal.returns-in_default-clause-numbers
-returns-in_default-clause-numbers g c = inl (refl, refl)
-
-pub returns-then-is_committed-clause-numbers : goal.returns-then-is_committed-clause-numbers
-returns-then-is_committed-clause-numbers g c = inl (refl, refl)
-
-pub returns-in_default-get_log_id-clause-numbers : goal.returns-in_default-get_log_id-clause-numbers
-returns-in_default-get_log_id-clause-numbers g c = inl (refl, refl)
-
-pub returns-clause-numbers : goal.returns-clause-numbers
-returns-clause-numbers g c =
-    let queue = c.args.self.now.output.queue in
-    let commit = Commit c.next_sm_seq-seq.result c.args.self.now.state.state.committed c.in-Some-get_log_id.upto in
-    let asked = c.next_sm_seq-seq.ensures.rest in
-    on_ok_weaker c.push_command.result
-    (λ h. inr (
-      ap (λ (o : Output _ _ _ _ _). numbers_in o.queue) h
-          ∙ ap (λ (o : Output _ _ _ _ _). numbers_in (o.queue ++ commit ∷ [])) asked
-          ∙ numbers_more queue commit
-          ∙ ap (λ n. numbers_in queue ++ n ∷ []) c.next_sm_seq-seq.ensures.value,
-      ap (λ (o : Output _ _ _ _ _). o.last_sm_seq) h ∙ ap (λ (o : Output _ _ _ _ _). o.last_sm_seq) asked,
-    ))
     c.push_command.ensures.ok

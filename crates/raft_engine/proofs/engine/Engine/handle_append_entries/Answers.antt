@@ -1,8 +1,6 @@
 -- Entries of a request that isn't refused have no gap.
 use Rattle.std.proofs.Common.{◌≡◌, ◌∙◌, ap, ap₂, sym, refl, false}
 use Rattle.std.proofs.Math.Bool.{true≢false}
-use Rattle.std.proofs.lemmas.Result.{on_ok_weaker}
-use Rattle.raft_engine.proofs.EndLemmas.{is_taken_if, taken_so}
 use Rattle.raft_group_step.specs.Message.{AppendRequest}
 use Rattle.raft_group_step.specs.GroupStep.{begun}
 use Rattle.raft_group_step.specs.AppendRequest.{append_request_step}
@@ -20,11 +18,13 @@ returns-clause-taken g c = λ x own at s m now says repeats may.
     let peer = c.args.tx.peer in
     let step = step_begun x own at c.args.self.now s may.stands may.empty in
     let can = begins_to_finish own peer (AppendRequest m) at s may.ready may.accepted in
-    let sound = sound_append own peer m at s may.accepted in
-    taken_so c.finish_call.result c.finish_call.ensures.which (event_taken x own c.args.self.now c.finish_call.new.self s (received own peer (AppendRequest m) at) may)
-    (c.finish_call.ensures.step (given x c.args.self.now s) own (append_request_step own peer m (begun at s))
-    (c.in_ok-append_request.ensures.step (given x c.args.self.now s) own (begun at s) m step (sym now) says repeats sound.0 sound.1)
-    (append_request_finishes own peer (begun at s) can (given x c.args.self.now s) c.args.self.now step m sound.0))
+    let sound = sound_append own peer m at s may.accepted in (
+      refl,
+      event_taken x own c.args.self.now c.finish.new.self s (received own peer (AppendRequest m) at) may
+          (c.in_ok-finish.ensures.step (given x c.args.self.now s) own (append_request_step own peer m (begun at s))
+          (c.in_ok-append_request.ensures.step (given x c.args.self.now s) own (begun at s) m step (sym now) says repeats sound.0 sound.1)
+          (append_request_finishes own peer (begun at s) can (given x c.args.self.now s) c.args.self.now step m sound.0)),
+    )
 
 pub returns-then-not-follow_one_another-clause-taken : goal.returns-then-not-follow_one_another-clause-taken
 returns-then-not-follow_one_another-clause-taken g c = λ x own at s m now says repeats may.
@@ -38,11 +38,4 @@ returns-then-not-follow_one_another-clause-heard g c = keeps_same c.args.self.no
 
 pub returns-clause-heard : goal.returns-clause-heard
 returns-clause-heard g c =
-    on_ok_weaker c.finish_call.result
-    (keeps_then c.args.self.now.leader c.append_request.new.self.leader c.finish_call.new.self.leader c.in_ok-append_request.ensures.heard)
-    c.finish_call.ensures.heard
-
-pub returns-clause-which : goal.returns-clause-which
-returns-clause-which g c =
-    is_taken_if c.finish_call.result (follow_one_another c.args.req.prev_log_id c.args.req.entries) c.finish_call.ensures.which
-    (ap (follow_one_another c.args.req.prev_log_id) (sym c.as_slice.ensures) ∙ sym c.follow_one_another.ensures ∙ c.if-not-follow_one_another.false)
+    keeps_then c.args.self.now.leader c.append_request.new.self.leader c.finish.new.self.leader c.in_ok-append_request.ensures.heard c.in_ok-finish.ensures.heard

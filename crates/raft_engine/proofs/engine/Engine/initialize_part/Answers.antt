@@ -6,14 +6,14 @@ use Rattle.raft_group_step.specs.StepResult.{step_down, store}
 use Rattle.raft_group_step.specs.AppendRequest.{put_entries}
 use Rattle.raft_known_state.specs.KnownState.{ArePlaced}
 use Rattle.raft_engine.specs.Standing.{IsStepOf}
-use Rattle.raft_engine.proofs.InitializeLemmas.{none_committed, put_first, elect_once, first_entry, room_after, first_term}
+use Rattle.raft_engine.proofs.InitializeLemmas.{none_committed, put_first, elect_once, first_entry, first_is, room_after, first_term}
 use Rattle.raft_engine.proofs.engine.Engine.initialize_part.Goals as goal
 
 pub returns-clause-step : goal.returns-clause-step
 returns-clause-step g c = λ x own r step now new.
     let m = c.args.membership in
     let down = c.in_ok-step_down.ensures.step x own r step in
-    let first = c.in_ok-entries.ensures in
+    let first = first_is c.new-log_id.result c.new.result m c.new-entries.result c.push.new.self c.new-log_id.ensures c.new.ensures.term c.new.ensures.node c.new-entries.ensures c.in_ok-push.ensures.ok in
     let put = store (PutEntries 0 (first_entry m ∷ [])) (step_down r) in
     let stored =
     subst (IsStepOf x own c.put_entries.new.self) (ap (λ es. put_entries es (step_down r)) first ∙ put_first m (step_down r) new)

@@ -1,8 +1,7 @@
-use Rattle.std.proofs.Common.{◌≡◌, ◌∙◌, ap, arith, inl, inr, refl, sym, subst, true, false}
+use Rattle.std.proofs.Common.{◌≡◌, ◌∙◌, ap, inr, sym, subst, true, false}
 use Rattle.std.specs.Prelude.{Some}
 use Rattle.std.proofs.lemmas.Result.{on_ok_weaker}
 use Rattle.raft_values.specs.declared.log_id.LogId.{LogId}
-use Rattle.raft_values.specs.LogId.{next_place}
 use Rattle.std.specs.Prelude.{ℕ}
 use Rattle.raft_group_step.specs.StoredGroup.{RemoveUpTo, SetSnapshot}
 use Rattle.raft_group_step.specs.StepResult.{apply_up_to, is_within, store}
@@ -17,29 +16,19 @@ use Rattle.raft_engine.proofs.engine.Engine.install.Goals as goal
 same_last : (a b : LogId ℕ) → Some a ≡ Some b → a ≡ b
 same_last a b e = cc
 
-pub cut_other-requires : goal.cut_other-requires
-cut_other-requires g c =
-    let next = ap next_place (c.uncommitted.ensures.some c.in-Some.last c.in-Some.is).0 in
-    omega (arith, next, c.requires)
-
-pub put_snapshot-requires : goal.put_snapshot-requires
-put_snapshot-requires g c =
-    let next = ap next_place (c.uncommitted.ensures.some c.in-Some.last c.in-Some.is).0 in
-    omega (arith, next, c.requires)
-
-pub returns-in_default-clause-step : goal.returns-in_default-clause-step
-returns-in_default-clause-step g c = λ x own r step follows meta.
+pub returns-then-is_committed-clause-step : goal.returns-then-is_committed-clause-step
+returns-then-is_committed-clause-step g c = λ x own r step follows meta.
+    let last = same_last c.in-Some.last x.snapshot.last (sym c.in-Some.is ∙ ap (λ (y : SnapshotMeta). y.last_log_id) meta) in
     let all : is_within x.snapshot.last.index r.state.committed ≡ true =
-    ap (is_within x.snapshot.last.index) (sym (committed_place own c.args.self.now r.state step.state))
-    ∙ c.uncommitted.ensures.none x.snapshot.last c.in_default.is (ap (λ (y : SnapshotMeta). y.last_log_id) meta) in
+    ap (λ (id : LogId ℕ). is_within id.index r.state.committed) (sym last) ∙ ap (is_within c.in-Some.last.index) (sym (committed_place own c.args.self.now r.state step.state))
+    ∙ sym c.is_committed.ensures ∙ c.if-is_committed.true in
     rw all step
 
 pub returns-clause-step : goal.returns-clause-step
 returns-clause-step g c = λ x own r step follows meta.
-    let some = c.uncommitted.ensures.some c.in-Some.last c.in-Some.is in
-    let last = same_last c.in-Some.last x.snapshot.last (sym some.0 ∙ ap (λ (y : SnapshotMeta). y.last_log_id) meta) in
+    let last = same_last c.in-Some.last x.snapshot.last (sym c.in-Some.is ∙ ap (λ (y : SnapshotMeta). y.last_log_id) meta) in
     let past : is_within c.in-Some.last.index r.state.committed ≡ false =
-    ap (is_within c.in-Some.last.index) (sym (committed_place own c.args.self.now r.state step.state)) ∙ some.1 in
+    ap (is_within c.in-Some.last.index) (sym (committed_place own c.args.self.now r.state step.state)) ∙ sym c.is_committed.ensures ∙ c.if-is_committed.false in
     let more : is_within x.snapshot.last.index r.state.committed ≡ false = ap (λ (id : LogId ℕ). is_within id.index r.state.committed) (sym last) ∙ past in
     let cut = cut_other c.in-Some.last r in
     let keeps = cut_other_keeps c.in-Some.last r in
@@ -57,6 +46,3 @@ returns-clause-numbers g c =
 
 pub returns-clause-leader : goal.returns-clause-leader
 returns-clause-leader g c = c.put_snapshot.ensures.leader ∙ c.cut_other.ensures.leader
-
-pub returns-in_default-clause-numbers : goal.returns-in_default-clause-numbers
-returns-in_default-clause-numbers g c = inl (refl, refl)

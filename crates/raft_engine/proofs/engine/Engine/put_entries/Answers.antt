@@ -12,16 +12,14 @@ use Rattle.raft_group_step.specs.AppendRequest.{cut_from}
 use Rattle.raft_group_step.proofs.Words.{cut_keeps_role}
 use Rattle.raft_known_state.specs.KnownState.{ArePlaced, Knows}
 use Rattle.raft_messages.specs.Entries.{all_go_on}
-use Rattle.raft_engine.specs.Putting.{PutsBehind}
-use Rattle.raft_engine.specs.Standing.{Engine}
 use Rattle.raft_engine.proofs.PlacedEntries.{found_at, go_on, some_within}
 use Rattle.raft_engine.proofs.FollowingLemmas.{cut_ends, known_go_on, log_stored, order_of_put, put_all_as, put_as, put_keeps_id, put_none}
 use Rattle.raft_engine.proofs.engine.Engine.put_entries.Goals as goal
 
-pub put-requires : goal.put-requires
-put-requires g c =
-    go_on c.args.entries (last_id c.cut_from.new.self.state.state.log_ids)
-    (ap₂ all_go_on (sym c.last.ensures ∙ sym c.copied-last.ensures) (sym c.as_slice-2.ensures) ∙ sym c.all_go_on.ensures ∙ c.if-not-all_go_on.false)
+pub append-requires : goal.append-requires
+append-requires g c =
+    go_on c.as_slice-3.result.now (last_id c.cut_from.new.self.state.state.log_ids)
+    (ap₂ all_go_on (sym c.last.ensures ∙ sym c.copied-last.ensures) (c.as_slice-3.ensures ∙ sym c.as_slice-2.ensures) ∙ sym c.all_go_on.ensures ∙ c.if-not-all_go_on.false)
 
 pub returns-in_default-clause-step : goal.returns-in_default-clause-step
 returns-in_default-clause-step g c = λ x own r place step follows placed past l.
@@ -52,16 +50,14 @@ returns-clause-step g c = λ x own r place step follows placed past l.
     let ends = cut_ends r first.log_id.index step.state.order cut_past (subst (λ n. n ≤ end_place r.state.stored) at l) in
     let after = cut_from first.log_id.index r in
     let at_end = subst (λ n. ArePlaced n c.args.entries) (at ∙ sym ends) placed in
-    on_ok_weaker c.put.result
-    (λ (put : PutsBehind c.vote_ref-vote.result.now c.args.entries c.cut_from.new.self c.put.new.self).
     let known =
-    subst (λ n. Knows c.put.new.self.state (after_storing (PutEntries n c.args.entries) after.state.stored)) ends
-    (put.known after.state.stored cut.state.knows cut.state.order.placed at_end) in
-    rw (put_as c.args.entries first found r)
-    (log_stored x own c.cut_from.new.self c.put.new.self after cut (ap (λ (y : Engine _ _). y.config) put.rest) (ap (λ (y : Engine _ _). y.seen_greater_log) put.rest)
-    (ap (λ (y : Engine _ _). y.leader) put.rest) (ap (λ (y : Engine _ _). y.candidate) put.rest) (PutEntries first.log_id.index c.args.entries) (AppendInputEntries c.vote_ref-vote.result.now c.args.entries)
-    (cut_keeps_role first.log_id.index r ∙ follows) known put.kept
+    subst (λ es. Knows c.append.new.self (after_storing (PutEntries first.log_id.index es) after.state.stored)) c.as_slice-3.ensures
+    (subst (λ n. Knows c.append.new.self (after_storing (PutEntries n c.as_slice-3.result.now) after.state.stored)) ends
+    (c.in_ok-append.ensures.known after.state.stored cut.state.knows cut.state.order.placed (subst (ArePlaced (end_place after.state.stored)) (sym c.as_slice-3.ensures) at_end))) in
+    on_ok_weaker c.push_command.result
+    (λ h. rw (put_as c.args.entries first found r)
+    (log_stored x own c.cut_from.new.self _ after cut refl refl refl refl (PutEntries first.log_id.index c.args.entries) (AppendInputEntries c.vote_ref-vote.result.now c.args.entries)
+    (cut_keeps_role first.log_id.index r ∙ follows) known c.in_ok-append.ensures.rest
     (order_of_put after.state cut.state.order c.args.entries at_end first.log_id.index ends) (put_keeps_id after.state cut.state.order c.args.entries at_end first.log_id.index ends)
-    (ap (λ (y : Engine _ _). y.output) put.rest) (put_all_as c.args.entries first found) refl tt
-    (sym (c.vote_ref-vote.ensures ∙ cut.state.knows.vote), at_end, some_within c.args.entries 0 first found) refl (λ s upto. refl)))
-    c.put.ensures.put
+    h (put_all_as c.args.entries first found) refl tt (sym (c.vote_ref-vote.ensures ∙ known.vote), at_end, some_within c.args.entries 0 first found) refl (λ s upto. refl)))
+    c.push_command.ensures.ok

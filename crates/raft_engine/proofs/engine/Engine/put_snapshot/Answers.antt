@@ -19,16 +19,16 @@ pub returns-clause-step : goal.returns-clause-step
 returns-clause-step g c = λ x own r step follows meta is_last past there.
     let order = step.state.order in
     let first = above_first r.state order c.args.last.index past in
-    let saved = c.in_ok-copy.ensures.known r.state.stored x.snapshot step.state.knows meta in
-    let purged = c.in_ok-cover_up_to.ensures.known (after_storing (SetSnapshot x.snapshot) r.state.stored) saved order.placed first there in
-    let keeps = both_keep c.args.self.now.state c.save_copied.new.known c.in_ok-cover_up_to.ensures.rest.0 c.in_ok-copy.ensures.rest c.in_ok-cover_up_to.ensures.rest.1 in
+    let saved = c.in_ok-save_snapshot.ensures.known r.state.stored x.snapshot step.state.knows meta in
+    let purged = c.in_ok-purge.ensures.known (after_storing (SetSnapshot x.snapshot) r.state.stored) saved order.placed first there in
+    let keeps = both_keep c.args.self.now.state c.save_snapshot.new.self c.purge.new.self c.in_ok-save_snapshot.ensures.rest c.in_ok-purge.ensures.rest in
     let command = c.with_seq-command.result in
     let told : InstallsAs x.snapshot command.payload =
     subst (λ (y : MachineCommand _ _ _ _ _). InstallsAs x.snapshot y.payload) (sym c.with_seq-command.ensures)
-    (subst (λ (y : MachineCommand _ _ _ _ _). InstallsAs x.snapshot y.payload) (sym c.install_full_snapshot.ensures) (c.in_ok-copy.ensures.copied ∙ meta)) in
-    let covers : c.in_ok-copy.copy.last_log_id ≡ Some c.args.last = ap (λ (m : SnapshotMeta). m.last_log_id) (c.in_ok-copy.ensures.copied ∙ meta) ∙ ap Some (sym is_last) in
+    (subst (λ (y : MachineCommand _ _ _ _ _). InstallsAs x.snapshot y.payload) (sym c.install_full_snapshot.ensures) (c.in_ok-copy.ensures.cases ∙ meta)) in
+    let covers : c.in_ok-copy.copy.last_log_id ≡ Some c.args.last = ap (λ (m : SnapshotMeta). m.last_log_id) (c.in_ok-copy.ensures.cases ∙ meta) ∙ ap Some (sym is_last) in
     on_ok_weaker c.push_command-2.result
-    (λ h. installed x own c.args.self.now _ r step refl refl refl refl follows c.args.last is_last past c.in_ok-cover_up_to.ensures.rest.0 (StateMachine command) (PurgeLog c.args.last) purged keeps c.in_ok-cover_up_to.ensures.rest.2
+    (λ h. installed x own c.args.self.now _ r step refl refl refl refl follows c.args.last is_last past c.purge.new.self (StateMachine command) (PurgeLog c.args.last) (c.in_ok-commit.ensures.known _ purged) keeps c.in_ok-commit.ensures.rest
     (h ∙ ap (λ (o : Output _ _ _ _ _). record o { queue = o.queue ++ PurgeLog c.args.last ∷ [] }) c.in_ok-push_command.ensures.ok
     ∙ ap (λ (o : Output _ _ _ _ _). record o { queue = (o.queue ++ StateMachine command ∷ []) ++ PurgeLog c.args.last ∷ [] }) c.next_sm_seq-seq.ensures.rest)
     (rw (c.with_seq-command.ensures, c.install_full_snapshot.ensures) refl) refl

@@ -29,14 +29,14 @@ returns-clause-step g c = λ x own r step empty turn follows room.
     let vote = c.vote_ref.result.now in
     let voted = c.vote_ref.ensures ∙ step.state.knows.vote in
     let mine = sym (own_vote_known x own e r vote c.leads_under-leads_on.result step c.vote_ref.ensures c.leads_under-leads_on.ensures) ∙ c.if-not-leads_on.false in
-    let led =
-    c.in_ok-begin_under.ensures.leads own s step.state.knows step.state.order.placed
-    (ap (λ (v : Vote ℕ). v.leader_id.node_id) voted ∙ own_then own s.vote mine) (ap (λ (v : Vote ℕ). v.committed) voted ∙ committed_then own s.vote mine) in
-    let leads = subst (λ (v : Vote ℕ). Leads own led.0 (record s { vote = v }) (new_lead s)) voted led.2 in
+    let leads =
+    subst (λ (v : Vote ℕ). Leads own c.in_ok-leader.leader (record s { vote = v }) (new_lead s)) voted
+    (c.in_ok-leader.ensures.leads own s step.state.knows step.state.order.placed
+    (ap (λ (v : Vote ℕ). v.leader_id.node_id) voted ∙ own_then own s.vote mine) (ap (λ (v : Vote ℕ). v.committed) voted ∙ committed_then own s.vote mine)) in
     on_ok_weaker c.push_command.result
     (λ pushed.
     subst (IsStepOf x own _) (leads_on own r mine)
-    (lead_resumed x own e _ r step led.0 empty turn follows refl refl led.1
+    (lead_resumed x own e _ r step c.in_ok-leader.leader empty turn follows refl refl refl
     (stands_nowhere own e.leader e.candidate s r.state.role follows step.state.role) refl pushed leads))
     c.push_command.ensures.ok
 
@@ -44,4 +44,4 @@ pub returns-then-not-leads_on-clause-heard : goal.returns-then-not-leads_on-clau
 returns-then-not-leads_on-clause-heard g c = inl (keeps_same c.args.self.now.leader)
 
 pub returns-clause-heard : goal.returns-clause-heard
-returns-clause-heard g c = on_ok c.push_command.result (inr c.in_ok-begin_under.ensures.heard)
+returns-clause-heard g c = on_ok c.push_command.result (inr c.in_ok-leader.ensures.heard)
