@@ -1,25 +1,21 @@
 -- What the facts of a group say of it.
-use Rattle.std.proofs.Common.{◌≡◌, ℕ, ◌+◌, ◌==◌, ◌&&◌, ◌||◌, not, Bool, true, false, if◌then◌else◌, List, [], ◌∷◌, ◌++◌, Option, Some, None, option_map, refl, ap, sym, ◌∙◌, IfNone}
+use Rattle.std.proofs.Common.{◌≡◌, ℕ, ◌+◌, ◌&&◌, ◌||◌, not, Bool, true, List, [], ◌∷◌, Option, Some, None, option_map, refl, ap, sym, ◌∙◌, IfNone}
 use Rattle.raft_quorums.specs.QuorumLaws.{and_left, and_right}
 use Rattle.raft_conditions.specs.declared.facts.GroupFacts.{GroupFacts}
 use Rattle.raft_conditions.specs.declared.refusal.Refusal.{Refusal}
 use Rattle.raft_conditions.specs.Facts.{IsFactsOf, IsRefusalOf}
 use Rattle.raft_messages.specs.Memberships.{logged_or_none}
 use Rattle.raft_conditions.specs.Reason.{reason_of}
-use Rattle.raft_conditions.specs.ByFacts.{AreLow, HasRoom, call_reason_by, call_reasons_by, has_room, is_right_party_by, is_settled_by, message_reason_by, next_term_by, lead_reason_by, range_reason_by}
+use Rattle.raft_conditions.specs.ByFacts.{AreLow, HasRoom, call_reason_by, call_reasons_by, has_room, is_settled_by, next_term_by, lead_reason_by, range_reason_by}
 use Rattle.raft_conditions.proofs.RangeLemmas.{in_range-append, low_number, low_numbers}
 use Rattle.raft_group_step.specs.Values.{is_voter, LoggedMembership}
 use Rattle.raft_group_step.specs.GroupEvent.{GroupCall, Call}
-use Rattle.raft_conditions.specs.declared.facts.Parties.{Parties}
-use Rattle.raft_conditions.specs.Messages.{received}
-use Rattle.raft_group_step.specs.Message.{MessageBody, ReplyFields}
-use Rattle.raft_values.specs.declared.vote.Vote.{Vote}
-use Rattle.raft_group_step.specs.GroupState.{GroupState, is_candidate, is_leader}
-use Rattle.raft_group_step.specs.StoredGroup.{end_place, membership_in_force}
+use Rattle.raft_group_step.specs.GroupState.{GroupState, is_leader}
+use Rattle.raft_group_step.specs.StoredGroup.{membership_in_force}
 use Rattle.raft_group_step.specs.declared.group_call.GroupCall.TheVariants.{Initialize, Elect, Propose, ChangeMembership, Heartbeat, Lost, TriggerSnapshot, TriggerPurge}
 use Rattle.raft_group_step.specs.StepResult.{NotLeader, UnknownGroup, NotAllowed, NotVoter, InProgress, NumberAtEnd}
 use Rattle.raft_group_step.specs.Limits.{is_low}
-use Rattle.raft_group_step.specs.Refusal.{are_in_range, first_of_reasons, is_foreign, is_settled_membership, is_sound, is_sound_reply, is_voter_in, known_leader, lead_reason, next_blank, next_ids, next_term, numbers_of, range_reason, reasons_of_call, reasons_of_change, refusal_of, unless}
+use Rattle.raft_group_step.specs.Refusal.{are_in_range, first_of_reasons, is_settled_membership, is_voter_in, known_leader, lead_reason, next_ids, next_term, range_reason, reasons_of_call, reasons_of_change, refusal_of, unless}
 
 -- ---- messages
 
@@ -46,59 +42,6 @@ pub room_of_taken : {X : Type 0} (r : Option X) (b : Bool) (f : GroupFacts) (ns 
     → IfNone r (b ≡ true) → IfNone r (HasRoom f)
 room_of_taken r b f ns e taken =
     if_none r (λ (t : b ≡ true). room_told f (and_right (are_in_range ns) (has_room f) (sym e ∙ t))) taken
-
-and_true : (b : Bool) → (b && true) ≡ b
-and_true true = refl
-and_true false = refl
-
-and_assoc : (a b c : Bool) → ((a && b) && c) ≡ (a && (b && c))
-and_assoc true b c = refl
-and_assoc false b c = refl
-
-blank_in_range : (stands : Bool) (end : ℕ) → are_in_range (if stands then end ∷ [] else []) ≡ (not stands || is_low end)
-blank_in_range true end = and_true (is_low end)
-blank_in_range false end = refl
-
-module _ {own : ℕ} {f : GroupFacts} {s : GroupState} (h : IsFactsOf own f s) where
-  blank_same : are_in_range (next_blank s) ≡ (not f.is_candidate || is_low f.end)
-  blank_same =
-      blank_in_range (is_candidate s.role) (end_place s.stored)
-      ∙ ap (λ b. not b || is_low (end_place s.stored)) (sym h.stands)
-      ∙ ap (λ n. not f.is_candidate || is_low n) (sym h.log_end)
-
-  room_same : (ns : List ℕ) → (are_in_range ns && has_room f) ≡ are_in_range ((ns ++ next_blank s) ++ next_ids s.role)
-  room_same ns =
-      sym (in_range-append (ns ++ next_blank s) (next_ids s.role)
-      ∙ ap (λ b. b && are_in_range (next_ids s.role)) (in_range-append ns (next_blank s))
-      ∙ and_assoc (are_in_range ns) (are_in_range (next_blank s)) (are_in_range (next_ids s.role))
-      ∙ ap (λ b. are_in_range ns && (b && are_in_range (next_ids s.role))) blank_same
-      ∙ ap (λ b. are_in_range ns && ((not f.is_candidate || is_low f.end) && b)) h.next_requests)
-
-  -- a message is refused for its first reason
-  message_refused : (p : Parties) (body : MessageBody) (now : ℕ) (in_range sound : Bool)
-      → in_range ≡ (are_in_range (now ∷ numbers_of body) && has_room f) → sound ≡ is_sound own p.peer s.stored body
-      → message_reason_by (is_right_party_by f p) f.present in_range sound ≡ refusal_of own s (received p body now)
-  message_refused p body now in_range sound ranges sounds =
-      ap (λ o. message_reason_by (p.sender == p.peer && not (p.sender == o) && p.addressee == o) f.present in_range sound) h.own_id
-      ∙ ap (λ b. message_reason_by (p.sender == p.peer && not (p.sender == own) && p.addressee == own) b in_range sound) h.presence
-      ∙ ap (λ b. message_reason_by (p.sender == p.peer && not (p.sender == own) && p.addressee == own) s.stored.present b sound) (ranges ∙ room_same (now ∷ numbers_of body))
-      ∙ ap (λ b. message_reason_by (p.sender == p.peer && not (p.sender == own) && p.addressee == own) s.stored.present
-      (are_in_range (((now ∷ numbers_of body) ++ next_blank s) ++ next_ids s.role)) b) sounds
-
-  pub foreign_same : (vote : Vote ℕ) → is_foreign f.own f.vote vote ≡ is_foreign own s.stored.vote vote
-  foreign_same vote = ap (λ o. is_foreign o f.vote vote) h.own_id ∙ ap (λ mine. is_foreign own mine vote) h.stored_vote
-
-  pub sound_reply_same : (reply : ReplyFields) → is_sound_reply f.own f.vote reply ≡ is_sound_reply own s.stored.vote reply
-  sound_reply_same reply = ap (λ o. is_sound_reply o f.vote reply) h.own_id ∙ ap (λ mine. is_sound_reply own mine reply) h.stored_vote
-
--- what is found of a message is its refusal
-pub message_judged : (f : GroupFacts) (p : Parties) (body : MessageBody) (now : ℕ) (r : Option (Refusal ℕ)) (in_range sound : Bool)
-    → in_range ≡ (are_in_range (now ∷ numbers_of body) && has_room f)
-    → ((own : ℕ) (s : GroupState) → IsFactsOf own f s → sound ≡ is_sound own p.peer s.stored body)
-    → option_map reason_of r ≡ message_reason_by (is_right_party_by f p) f.present in_range sound
-    → IsRefusalOf f (received p body now) r
-message_judged f p body now r in_range sound ranges sounds e =
-    λ own s h. e ∙ message_refused h p body now in_range sound ranges (sounds own s h)
 
 -- ---- calls
 

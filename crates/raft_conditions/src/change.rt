@@ -1,7 +1,7 @@
 //! What a change makes of a membership.
-ghost use Rattle.std.specs.Prelude.{◌≡◌, ◌∷◌, ◌<◌, [], IfOk, false, length, MatchOption, nat_eq, not};
+ghost use Rattle.std.specs.Prelude.{◌≡◌, ◌∷◌, [], IfOk, false, MatchOption, nat_eq, not};
 ghost use Rattle.std.specs.Ordering.{nat_cmp};
-ghost use Rattle.raft_quorums.specs.Nodes.{has_id, with_ids};
+ghost use Rattle.raft_quorums.specs.Nodes.{has_id};
 ghost use Rattle.raft_quorums.specs.Rising.{IsRisingByFirst};
 ghost use Rattle.raft_group_step.specs.Values.{after_change, is_valid};
 
@@ -54,77 +54,44 @@ fn learners_of(
     Ok(NodeMap::from_rising(nodes))
 }
 
-// This voter group alone.
-fn one_group(alloc: Global, group: IdSet<u64>) -> Result<VoterGroups<u64>, AllocError>
-    ensures { IfOk result (λ groups. groups ≡ group ∷ []) }
+// The membership with this voter group alone.
+fn with_one_group(
+    alloc: Global,
+    group: IdSet<u64>,
+    nodes: NodeMap<u64, BasicNode>,
+) -> Result<Membership<u64, BasicNode>, AllocError>
+    ensures { IfOk result (λ m. m ≡ record { configs = group ∷ []; nodes = nodes }) }
 {
     let mut groups = VoterGroups::new(alloc);
     groups.push(group)?;
-    Ok(groups)
-}
-
-// The voter group of these ids alone.
-fn group_of(alloc: Global, ids: &[u64]) -> Result<VoterGroups<u64>, AllocError>
-    ensures { IfOk result (λ groups. groups ≡ with_ids nat_cmp [] ids.now ∷ []) }
-{
-    one_group(alloc, IdSet::new(alloc).with(ids)?)
-}
-
-// The voter groups that a change makes where there are none.
-fn groups_after(alloc: Global, change: &Change) -> Result<VoterGroups<u64>, AllocError>
-    ensures { (nodes : _) → IfOk result (λ groups. groups ≡ (after_change (record { configs = []; nodes = nodes }) change.now).configs) }
-{
-    match change {
-        ChangeMembers::AddVoterIds(ids) => group_of(alloc, ids.as_slice()),
-        ChangeMembers::AddVoters(voters) => group_of(alloc, voters.ids()?.as_slice()),
-        ChangeMembers::RemoveVoters(_) => group_of(alloc, &[]),
-        ChangeMembers::ReplaceAllVoters(ids) => one_group(alloc, ids.clone()?),
-        _ => Ok(VoterGroups::new(alloc)),
-    }
-}
-
-// The nodes that a change makes of these where there are no voter groups.
-fn nodes_after(
-    nodes: &NodeMap<u64, BasicNode>,
-    change: &Change,
-) -> Result<NodeMap<u64, BasicNode>, AllocError>
-    ensures { IfOk result (λ new. new ≡ (after_change (record { configs = []; nodes = nodes.now }) change.now).nodes) }
-{
-    match change {
-        ChangeMembers::AddVoters(more) | ChangeMembers::AddNodes(more) => {
-            nodes.with_new_nodes(more.as_slice())
-        }
-        ChangeMembers::SetNodes(more) => nodes.with_nodes(more.as_slice()),
-        ChangeMembers::RemoveNodes(ids) => nodes.filtered(&Others { ids }),
-        ChangeMembers::ReplaceAllNodes(others) => others.clone(),
-        _ => nodes.clone(),
-    }
-}
-
-// What a change makes of the nodes of a membership that has no voter groups.
-fn learners_after(
-    alloc: Global,
-    old: &Membership<u64, BasicNode>,
-    change: &Change,
-) -> Result<NodeMap<u64, BasicNode>, AllocError>
-    requires { old.now.configs ≡ [] }
-    ensures { IfOk result (λ new. new ≡ (after_change old.now change.now).nodes) }
-{
-    let learners = learners_of(alloc, old)?;
-    nodes_after(&learners, change)
+    Ok(Membership::from_parts(groups, nodes))
 }
 
 // What a change makes of a membership that has no voter groups.
 fn changed_without_groups(
     alloc: Global,
-    old: &Membership<u64, BasicNode>,
+    nodes: NodeMap<u64, BasicNode>,
     change: &Change,
 ) -> Result<Membership<u64, BasicNode>, AllocError>
-    requires { old.now.configs ≡ [] }
-    ensures { IfOk result (λ new. new ≡ after_change old.now change.now) }
+    ensures { IfOk result (λ new. new ≡ after_change (record { configs = []; nodes = nodes }) change.now) }
 {
-    let nodes = learners_after(alloc, old, change)?;
-    Ok(Membership::from_parts(groups_after(alloc, change)?, nodes))
+    let nobody = IdSet::new(alloc);
+    let nodes = match change {
+        ChangeMembers::AddVoterIds(ids) => {
+            return with_one_group(alloc, nobody.with(ids.as_slice())?, nodes);
+        }
+        ChangeMembers::AddVoters(voters) => {
+            let group = nobody.with(voters.ids()?.as_slice())?;
+            return with_one_group(alloc, group, nodes.with_new_nodes(voters.as_slice())?);
+        }
+        ChangeMembers::RemoveVoters(_) => return with_one_group(alloc, nobody, nodes),
+        ChangeMembers::ReplaceAllVoters(ids) => return with_one_group(alloc, ids.clone()?, nodes),
+        ChangeMembers::AddNodes(more) => nodes.with_new_nodes(more.as_slice())?,
+        ChangeMembers::SetNodes(more) => nodes.with_nodes(more.as_slice())?,
+        ChangeMembers::RemoveNodes(ids) => nodes.filtered(&Others { ids })?,
+        ChangeMembers::ReplaceAllNodes(others) => others.clone()?,
+    };
+    Ok(Membership::from_parts(VoterGroups::new(alloc), nodes))
 }
 
 // The same change.
@@ -143,21 +110,6 @@ fn copied_change(change: &Change) -> Result<Change, AllocError>
     })
 }
 
-// What a change makes of a membership that has voter groups: nothing where that wouldn't be valid.
-fn changed_with_groups(
-    old: &Membership<u64, BasicNode>,
-    change: Change,
-) -> Result<Option<Membership<u64, BasicNode>>, AllocError>
-    requires { 0 < length old.now.configs }
-    ensures { IfOk result (λ changed. MatchOption changed (is_valid (after_change old.now change) ≡ false) (λ new. new ≡ after_change old.now change)) }
-{
-    match old.change(change, true) {
-        Ok(new) => Ok(Some(new)),
-        Err(ChangeMembershipError::Memory(refused)) => Err(refused),
-        Err(_) => Ok(None),
-    }
-}
-
 /// What the change makes of the membership (own): nothing where that wouldn't be valid. An error is
 /// want of memory.
 pub fn changed_membership(
@@ -168,7 +120,12 @@ pub fn changed_membership(
     ensures { IfOk result (λ changed. MatchOption changed (is_valid (after_change old.now change.now) ≡ false) (λ new. new ≡ after_change old.now change.now)) }
 {
     if old.get_joint_config().is_empty() {
-        return Ok(Some(changed_without_groups(alloc, old, change)?));
+        let new = changed_without_groups(alloc, learners_of(alloc, old)?, change)?;
+        return Ok(Some(new));
     }
-    changed_with_groups(old, copied_change(change)?)
+    match old.change(copied_change(change)?, true) {
+        Ok(new) => Ok(Some(new)),
+        Err(ChangeMembershipError::Memory(refused)) => Err(refused),
+        Err(_) => Ok(None),
+    }
 }

@@ -1,7 +1,7 @@
 -- The reasons of a command and of a change, whatever their tokens.
 use Rattle.std.proofs.Common.{sym, subst}
 use Rattle.raft_group_step.specs.GroupEvent.{Call, GroupCall}
-use Rattle.raft_group_step.specs.declared.group_call.GroupCall.TheVariants.{ChangeMembership, Elect, Initialize, Propose}
+use Rattle.raft_group_step.specs.declared.group_call.GroupCall.TheVariants.{ChangeMembership, Propose}
 use Rattle.raft_conditions.specs.Facts.{IsRefusalOf}
 use Rattle.raft_conditions.proofs.FactLemmas.{call_judged}
 use Rattle.raft_conditions.proofs.facts.GroupFacts.call_refusal.Goals as goal
@@ -19,16 +19,3 @@ returns-in-ChangeMembership-clause-refusal c =
     (sym c.in-ChangeMembership.is)
     (call_judged c.args.self.now c.args.now (ChangeMembership c.in-ChangeMembership.change c.in-ChangeMembership.token) c.change_call_refusal.result
     c.if-not-self.false (c.change_call_refusal.ensures.reason c.in-ChangeMembership.token))
-
-pub returns-in-Elect-clause-refusal : goal.returns-in-Elect-clause-refusal
-returns-in-Elect-clause-refusal c =
-    subst (λ (call : GroupCall). IsRefusalOf c.args.self.now (Call call c.args.now) c.elect_refusal.result)
-    (sym c.in-Elect.is)
-    (call_judged c.args.self.now c.args.now Elect c.elect_refusal.result c.if-not-self.false c.elect_refusal.ensures.reason)
-
-pub returns-in-Initialize-clause-refusal : goal.returns-in-Initialize-clause-refusal
-returns-in-Initialize-clause-refusal c =
-    subst (λ (call : GroupCall). IsRefusalOf c.args.self.now (Call call c.args.now) c.initialize_refusal.result)
-    (sym c.in-Initialize.is)
-    (call_judged c.args.self.now c.args.now (Initialize c.in-Initialize.membership) c.initialize_refusal.result
-    c.if-not-self.false c.initialize_refusal.ensures.reason)
