@@ -37,7 +37,7 @@ use Rattle.raft_cluster_events.specs.Node.{NodeActs}
 use Rattle.raft_cluster_events.specs.States.{NodeStates}
 use Rattle.raft_node_laws.specs.Answered.{none_of, one_of, opening_of, some_of}
 use Rattle.raft_node_laws.specs.Delivery.{Comes, pieces_from}
-use Rattle.raft_node_laws.specs.Law.{Anything, IsAskedAt, IsTaken, KeepsLaw, Leads, WasSent}
+use Rattle.raft_node_laws.specs.Law.{Anything, IsAskedAt, KeepsLaw, Leads, WasSent}
 use Rattle.raft_node_laws.specs.Reporting.{IsPartAs, IsSentAs, OutcomeAs, node_behind, plain_event}
 use Rattle.raft_node_laws.specs.Saying.{SaysCleaning, SaysOpening, SaysReset, names_of}
 use Rattle.raft_cluster.specs.Cluster.{Happens, HappensBy, IsReached, IsTurnedAway, Reaches, RunsTo, nothing_sent, refusal_in, with_node}

@@ -16,7 +16,7 @@ use Rattle.raft_cluster.specs.declared.answer.Answer.{Answer}
 use Rattle.raft_cluster.specs.declared.answer.Answer.TheVariants.{OfGroup, Quiet, Cleaned, Opened, Spared}
 use Rattle.raft_cluster.specs.Facts.{Sent}
 use Rattle.raft_node_laws.specs.Answered.{Answered, none_of, opening_of, some_of}
-use Rattle.raft_cluster.specs.Happening.{Answers, EndsAt, IsOfGroup, NodeAnswer, Did, HasCleaned, RefusesFor, Settles, cleaned, turned_by}
+use Rattle.raft_cluster.specs.Happening.{Answers, EndsAt, IsOfGroup, Did, HasCleaned, RefusesFor, Settles, cleaned, turned_by}
 use Rattle.raft_cluster.specs.Turn.{IsAnswered, IsOpening, quietly}
 
 module _ {N : Type 0} (acts : NodeActs N) where

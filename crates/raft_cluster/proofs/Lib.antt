@@ -2,9 +2,11 @@ pub mod FactLemmas
 pub mod SendingLemmas
 pub mod HappeningLemmas
 pub mod ClusterLemmas
+pub mod FusedLemmas
 pub mod TurnLemmas
 pub mod SlotLemmas
 pub mod RoundLemmas
+pub mod CrashLemmas
 pub mod ListLemmas
 pub mod PlainLemmas
 pub mod SpellingLemmas

@@ -1,5 +1,5 @@
 -- A round on the way: what nodes answered ahead of their events' turns holds at these turns.
-use Rattle.std.proofs.Common.{◌≡◌, ◌&&◌, ℕ, zero, suc, eqb, Bool, true, false, cond, not, List, [], ◌∷◌, ◌++◌, Option, Some, None, map, length, position, slice_get, inl, inr, refl, sym, ap, ◌∙◌, subst, arith, nat_lt, length-set, append_assoc, append-nil, length-append, eqb-true, ◌+◌}
+use Rattle.std.proofs.Common.{◌≡◌, ◌&&◌, ℕ, zero, suc, eqb, Bool, true, false, cond, not, List, [], ◌∷◌, ◌++◌, Option, Some, None, map, length, position, slice_get, inl, inr, refl, sym, ap, ◌∙◌, subst, arith, nat_lt, length-set, append_assoc, append-nil, eqb-true, ◌+◌}
 use Rattle.std.proofs.lemmas.Bool.{eq-eqb, and_parts, not-true}
 use Rattle.std.specs.Prelude.{slice_set}
 use Rattle.std.specs.Option.{option_map}
@@ -16,21 +16,22 @@ use Rattle.raft_sent_frames.specs.declared.frame.SentFrame.{SentFrame}
 use Rattle.raft_sent_frames.specs.Frames.{frames_of}
 use Rattle.raft_cluster_events.specs.declared.event.ClusterEvent.{ClusterEvent}
 use Rattle.raft_cluster_events.specs.declared.event.ClusterEvent.TheVariants.{AddGroup, Ask, Deliver, ResetPeer, Clean, Fuse, Crash, Reopen}
+use Rattle.raft_cluster_events.specs.declared.outcome.CrashRefusal.{CrashRefusal}
 use Rattle.raft_cluster_events.specs.declared.outcome.CrashRefusal.TheVariants.{Memory}
 use Rattle.raft_cluster_events.specs.declared.outcome.EventOutcome.{EventOutcome}
 use Rattle.raft_cluster_events.specs.declared.outcome.Recorded.{Recorded}
 use Rattle.raft_cluster_events.specs.Node.{NodeActs}
 use Rattle.raft_cluster.specs.declared.answer.Answer.{Answer}
 use Rattle.raft_cluster.specs.declared.answer.Answer.TheVariants.{OfGroup, Quiet, Cleaned, Opened, Spared}
-use Rattle.raft_cluster.specs.Cluster.{ClusterValue, Happens, HappensBy, IsReached, IsRefusedFor, RunsTo, events_of, nothing_sent, refusal_in}
+use Rattle.raft_cluster.specs.Cluster.{ClusterValue, Happens, HappensBy, IsReached, RunsTo, events_of, nothing_sent, refusal_in}
 use Rattle.raft_cluster.specs.Facts.{Sent, asked_of, cuts_of, delivered, differs, differs_from, is_taken, membership_in, node_at, node_of, node_there, place_in, set_up_by, set_up_by_event, set_up_if, standing_of}
-use Rattle.raft_cluster.specs.Happening.{Answers, Delivers, NodeAnswer}
-use Rattle.raft_cluster.specs.Round.{AllButSpared, AreAhead, HasNoTurn, HasPart, HasTurn, IsTurned, Rounds, TakesTurns, WantsMemory, are_idle, IsAheadOf, IsFree, IsIn, has_to_wait, is_apart_from, is_for, is_round, is_set_up, is_that, place_by, sets_up, sets_up_elsewhere}
+use Rattle.raft_cluster.specs.Happening.{Answers, Delivers, NodeAnswer, RefusesFor}
+use Rattle.raft_cluster.specs.Round.{AreAhead, AreAsked, HasNoTurn, HasPart, HasTurn, IsTurned, Rounds, RunsFront, TakesTurns, WantsMemory, are_idle, IsAheadOf, IsFree, IsIn, has_to_wait, is_apart_from, is_crash, is_for, is_round, is_set_up, is_that, place_by, sets_up, sets_up_elsewhere}
 use Rattle.raft_cluster.specs.Turn.{HasCome, IsAnswered, IsAtTurn, refusal_for}
 use Rattle.raft_cluster.proofs.ClusterLemmas.{runs_on}
 use Rattle.raft_cluster.proofs.ListLemmas.{all_push}
-use Rattle.raft_cluster.proofs.SlotLemmas.{mapped_at, same_slots}
-use Rattle.raft_cluster.proofs.TurnLemmas.{Grows, SameFrame, by_ids, found_at, found_nowhere, found_passes, grows, happens_there, id_at, none_any, same_frame, set_at, set_other}
+use Rattle.raft_cluster.proofs.SlotLemmas.{differ, mapped_at, same_slots}
+use Rattle.raft_cluster.proofs.TurnLemmas.{Grows, SameFrame, by_ids, found_nowhere, found_passes, grows, happens_there, id_at, none_any, same_frame, set_at, set_other}
 use Rattle.raft_cluster.proofs.FactLemmas.{there_found}
 
 -- ---- set-ups
@@ -230,9 +231,6 @@ its_event sent ids place event first others (suc at) round there here at_event =
 some_is : {A : Type 0} (x y : A) → Some x ≡ Some y → x ≡ y
 some_is x y e = cc
 
-differ : (a b : ℕ) → eqb a b ≡ false → a ≡ b → ⊥
-differ a b unequal e = let equal = eq-eqb a b e in absurd (cc)
-
 -- nodes of the same ids have one at the same place
 record HasSameId {N : Type 0} (acts : NodeActs N) (nodes : List N) (place : ℕ) (node : N) : Type 0 where
   pub node' : N
@@ -312,10 +310,11 @@ module _ {N : Type 0} (acts : NodeActs N) (ids : List ℕ) (sent : Sent) (histor
       (record { among = past.0.among; apart = λ at id other there node. past.0.apart (suc at) id other there node }, past_more event others rs past.1)
 
   -- the turn of the first event that is left
-  pub record Turn (event : ClusterEvent) (others : List ClusterEvent) (o : EventOutcome) (nodes : List N) (records : List Recorded) (later : Sent) (now' : List N) (answers' : List (Option Answer)) (later' : Sent) : Type 0 where
+  pub record Turn (event : ClusterEvent) (others : List ClusterEvent) (o : EventOutcome) (nodes : List N) (answers : List (Option Answer)) (records : List Recorded) (later : Sent) (now' : List N) (answers' : List (Option Answer)) (later' : Sent) : Type 0 where
     pub behind : List N
     pub happens : Happens acts nodes later (history ++ records) event o behind later'
     pub stays : (place : ℕ) → (place_by ids (node_of sent event) ≡ Some place → ⊥) → slice_get behind place ≡ slice_get nodes place
+    pub keeps : (place : ℕ) → (place_by ids (node_of sent event) ≡ Some place → ⊥) → slice_get answers' place ≡ slice_get answers place
     pub way : IsUnderWay others behind now' answers' (records ++ record { event = event; outcome = o } ∷ []) later'
 
   -- the event at its turn is past, and those that are left are apart from it
@@ -349,7 +348,7 @@ module _ {N : Type 0} (acts : NodeActs N) (ids : List ℕ) (sent : Sent) (histor
 
   -- an event for which there is no node
   nowhere : (event : ClusterEvent) (others : List ClusterEvent) (o : EventOutcome) (nodes now now' : List N) (answers answers' : List (Option Answer)) (records : List Recorded) (later later' : Sent) → IsUnderWay (event ∷ others) nodes now answers records later
-      → HasNoTurn acts later (history ++ records) event now answers o now' answers' later' → Turn event others o nodes records later now' answers' later'
+      → HasNoTurn acts later (history ++ records) event now answers o now' answers' later' → Turn event others o nodes answers records later now' answers' later'
   nowhere event others o nodes now now' answers answers' records later later' way h =
       let f = first_of_round sent event others way.round in
       let same = same_frame sent later event f.id way.grows f.node in
@@ -370,6 +369,7 @@ module _ {N : Type 0} (acts : NodeActs N) (ids : List ℕ) (sent : Sent) (histor
         behind = nodes;
         happens = happens;
         stays = λ place no. refl;
+        keeps = λ place no. ap (λ ws. slice_get ws place) h.left;
         way = later_way event others o nodes now nodes now' answers answers' records later later' way ahead' happens;
       }
     where
@@ -402,7 +402,7 @@ module _ {N : Type 0} (acts : NodeActs N) (ids : List ℕ) (sent : Sent) (histor
 
   -- the event's node is at its turn
   there : (event : ClusterEvent) (others : List ClusterEvent) (o : EventOutcome) (nodes now now' : List N) (answers answers' : List (Option Answer)) (records : List Recorded) (later later' : Sent) → IsUnderWay (event ∷ others) nodes now answers records later
-      → HasTurn acts later (history ++ records) event now answers o now' answers' later' → Turn event others o nodes records later now' answers' later'
+      → HasTurn acts later (history ++ records) event now answers o now' answers' later' → Turn event others o nodes answers records later now' answers' later'
   there event others o nodes now now' answers answers' records later later' way h =
       let f = first_of_round sent event others way.round in
       let same = same_frame sent later event f.id way.grows f.node in
@@ -425,6 +425,7 @@ module _ {N : Type 0} (acts : NodeActs N) (ids : List ℕ) (sent : Sent) (histor
         behind = slice_set nodes h.place h.behind;
         happens = happens;
         stays = λ place no. set_other nodes place h.place h.behind (λ is. no (here ∙ ap Some (sym is)));
+        keeps = λ place no. ap (λ ws. slice_get ws place) h.left ∙ set_other answers place h.place None (λ is. no (here ∙ ap Some (sym is)));
         way = later_way event others o nodes now (slice_set nodes h.place h.behind) now' answers answers' records later later' way ahead' happens;
       }
     where
@@ -434,12 +435,12 @@ module _ {N : Type 0} (acts : NodeActs N) (ids : List ℕ) (sent : Sent) (histor
           let some : slice_get (slice_set answers h.place None) h.place ≡ Some (Some a) = ap (slice_get (slice_set answers h.place None)) is ∙ has in absurd (cc)
 
   pub turned : (event : ClusterEvent) (others : List ClusterEvent) (o : EventOutcome) (nodes now now' : List N) (answers answers' : List (Option Answer)) (records : List Recorded) (later later' : Sent) → IsUnderWay (event ∷ others) nodes now answers records later
-      → IsTurned acts later (history ++ records) event now answers o now' answers' later' → Turn event others o nodes records later now' answers' later'
+      → IsTurned acts later (history ++ records) event now answers o now' answers' later' → Turn event others o nodes answers records later now' answers' later'
   turned event others o nodes now now' answers answers' records later later' way (inl h) = there event others o nodes now now' answers answers' records later later' way h
   turned event others o nodes now now' answers answers' records later later' way (inr h) = nowhere event others o nodes now now' answers answers' records later later' way h
 
   -- a node without an answer is the one that it would be if the events so far had come one after another
-  unanswered : (left : List ClusterEvent) (nodes now : List N) (answers : List (Option Answer)) (place : ℕ) (node : N) → AreAhead acts ids sent history events left nodes now answers
+  pub unanswered : (left : List ClusterEvent) (nodes now : List N) (answers : List (Option Answer)) (place : ℕ) (node : N) → AreAhead acts ids sent history events left nodes now answers
       → slice_get now place ≡ Some node → slice_get answers place ≡ Some None → slice_get nodes place ≡ Some node
   unanswered left nodes now answers place node ahead there none =
       let was = beside_id acts nodes now (ahead.ids_now ∙ sym ahead.ids_before) place node there in
@@ -460,57 +461,51 @@ module _ {N : Type 0} (acts : NodeActs N) (ids : List ℕ) (sent : Sent) (histor
         there = unanswered (event ∷ others) nodes now answers h.place h.node way.ahead h.there h.unanswered;
       }
 
-  -- a crash for which its node lacks memory is passed over
-  pub passed_over : (event : ClusterEvent) (others : List ClusterEvent) (nodes now : List N) (answers : List (Option Answer)) (records : List Recorded) (later : Sent) → IsUnderWay (event ∷ others) nodes now answers records later
-      → WantsMemory acts later (history ++ records) event now answers → IsUnderWay others nodes now answers records later
-  passed_over event others nodes now answers records later way h =
-      let at_place = its_place event others nodes now answers records later way h in
-      record {
-        ahead = passes event others nodes now answers way.ahead (λ place a has at. no_answer place a (some_is h.place place (sym at_place.here ∙ at)) has h.unanswered);
-        round = (first_of_round sent event others way.round).round;
-        within = λ at x there. way.within (suc at) x there;
-        past = past_more event others records way.past;
-        grows = way.grows;
-      }
-    where
-      no_answer : (place : ℕ) (a : Answer) → h.place ≡ place → slice_get answers place ≡ Some (Some a) → slice_get answers h.place ≡ Some None → ⊥
-      no_answer place a is has none = let some : slice_get answers h.place ≡ Some (Some a) = ap (slice_get answers) is ∙ has in absurd (cc)
-
 -- ---- all events of a round
 
 module _ {N : Type 0} (acts : NodeActs N) where
-  spared_more : (nodes : List N) (sent : Sent) (es ran : List ClusterEvent) (event : ClusterEvent) → AllButSpared acts nodes sent es ran → AllButSpared acts nodes sent (es ++ event ∷ []) (ran ++ event ∷ [])
-  spared_more nodes sent [] ran event none = inl ([], ap (λ l. l ++ event ∷ []) none, refl)
-  spared_more nodes sent (e ∷ es) ran event (inl (rest, is, h)) = inl (rest ++ event ∷ [], ap (λ l. l ++ event ∷ []) is, spared_more nodes sent es rest event h)
-  spared_more nodes sent (e ∷ es) ran event (inr (why, h)) = inr (why, spared_more nodes sent es ran event h)
+  -- a crash that nothing turns away at its turn was turned away by nothing before the round either
+  free_before : (sent later : Sent) (history behind : List Recorded) (event : ClusterEvent) (node : N) → is_crash event ≡ true → refusal_for acts node later behind event ≡ None → refusal_for acts node sent history event ≡ None
+  free_before sent later history behind (AddGroup n group) node crash free = absurd (cc)
+  free_before sent later history behind (Ask n group call now) node crash free = absurd (cc)
+  free_before sent later history behind (Deliver group number cuts now) node crash free = absurd (cc)
+  free_before sent later history behind (ResetPeer n peer) node crash free = absurd (cc)
+  free_before sent later history behind (Clean n) node crash free = absurd (cc)
+  free_before sent later history behind (Fuse n first_refused) node crash free = absurd (cc)
+  free_before sent later history behind (Crash n choice) node crash free = free
+  free_before sent later history behind (Reopen n workers) node crash free = absurd (cc)
 
-  spared_over : (nodes : List N) (sent : Sent) (es ran : List ClusterEvent) (event : ClusterEvent) → IsRefusedFor acts nodes sent event Memory → AllButSpared acts nodes sent es ran → AllButSpared acts nodes sent (es ++ event ∷ []) ran
-  spared_over nodes sent [] ran event refuses none = inr (refuses, none)
-  spared_over nodes sent (e ∷ es) ran event refuses (inl (rest, is, h)) = inl (rest, is, spared_over nodes sent es rest event refuses h)
-  spared_over nodes sent (e ∷ es) ran event refuses (inr (why, h)) = inr (why, spared_over nodes sent es ran event refuses h)
+  -- what a node refuses is a crash
+  crash_refused : (event : ClusterEvent) (node : N) (why : CrashRefusal) → RefusesFor acts event node why → is_crash event ≡ true
+  crash_refused (AddGroup n group) node why refuses = absurd refuses
+  crash_refused (Ask n group call now) node why refuses = absurd refuses
+  crash_refused (Deliver group number cuts now) node why refuses = absurd refuses
+  crash_refused (ResetPeer n peer) node why refuses = absurd refuses
+  crash_refused (Clean n) node why refuses = absurd refuses
+  crash_refused (Fuse n first_refused) node why refuses = absurd refuses
+  crash_refused (Crash n choice) node why refuses = refl
+  crash_refused (Reopen n workers) node why refuses = absurd refuses
 
-  module _ (ids : List ℕ) (sent : Sent) (past : List Recorded) (events : List ClusterEvent) (before : List N) where
+  module _ (ids : List ℕ) (sent : Sent) (past : List Recorded) (events : List ClusterEvent) (before : List N) (waiting : List (Option Answer)) where
     -- these events had their turns, and those are left
-    pub record HaveHadTurns (done left : List ClusterEvent) (number : ℕ) (now : List N) (answers : List (Option Answer)) (history : List Recorded) (later : Sent) : Type 0 where
+    pub record HaveHadTurns (done left : List ClusterEvent) (now : List N) (answers : List (Option Answer)) (history : List Recorded) (later : Sent) : Type 0 where
       pub nodes : List N
       pub records : List Recorded
       pub same : history ≡ past ++ records
-      pub spared : AllButSpared acts before sent done (events_of records)
-      pub count : number ≡ length records
+      pub ran : events_of records ≡ done
       pub runs : RunsTo acts before sent past records nodes later
       pub way : IsUnderWay acts ids sent past events left nodes now answers records later
-      pub ids_first : map acts.id before ≡ ids
-      -- the nodes whose events are left are as they were before the round
+      -- the nodes whose events are left are as they were before the round, and so are their answers
       pub still : (at place : ℕ) (event : ClusterEvent) → slice_get left at ≡ Some event → place_by ids (node_of sent event) ≡ Some place → slice_get nodes place ≡ slice_get before place
+      pub kept : (at place : ℕ) (event : ClusterEvent) → slice_get left at ≡ Some event → place_by ids (node_of sent event) ≡ Some place → slice_get answers place ≡ slice_get waiting place
 
-    pub at_first : (now : List N) (answers : List (Option Answer)) → is_round sent events ≡ true → AreAhead acts ids sent past events events before now answers → HaveHadTurns [] events 0 now answers past sent
-    at_first now answers round ahead =
+    pub at_first : (now : List N) → is_round sent events ≡ true → AreAhead acts ids sent past events events before now waiting → HaveHadTurns [] events now waiting past sent
+    at_first now round ahead =
         record {
           nodes = before;
           records = [];
           same = sym (append-nil past);
-          spared = refl;
-          count = refl;
+          ran = refl;
           runs = (refl, refl);
           way = record {
             ahead = ahead;
@@ -519,14 +514,14 @@ module _ {N : Type 0} (acts : NodeActs N) where
             past = tt;
             grows = λ group k frame there. there;
           };
-          ids_first = ahead.ids_before;
           still = λ at place event there here. refl;
+          kept = λ at place event there here. refl;
         }
 
-    pub had_turn : (done others : List ClusterEvent) (event : ClusterEvent) (o : EventOutcome) (number : ℕ) (now now' : List N) (answers answers' : List (Option Answer)) (history history' : List Recorded) (later later' : Sent)
-        → HaveHadTurns done (event ∷ others) number now answers history later → IsTurned acts later history event now answers o now' answers' later' → history' ≡ history ++ record { event = event; outcome = o } ∷ []
-        → HaveHadTurns (done ++ event ∷ []) others (number + 1) now' answers' history' later'
-    had_turn done others event o number now now' answers answers' history history' later later' had h pushed =
+    pub had_turn : (done others : List ClusterEvent) (event : ClusterEvent) (o : EventOutcome) (now now' : List N) (answers answers' : List (Option Answer)) (history history' : List Recorded) (later later' : Sent)
+        → HaveHadTurns done (event ∷ others) now answers history later → IsTurned acts later history event now answers o now' answers' later' → history' ≡ history ++ record { event = event; outcome = o } ∷ []
+        → HaveHadTurns (done ++ event ∷ []) others now' answers' history' later'
+    had_turn done others event o now now' answers answers' history history' later later' had h pushed =
         let r : Recorded = record { event = event; outcome = o } in
         let P : List Recorded → Type 0 = λ hs. IsTurned acts later hs event now answers o now' answers' later' in
         let t = turned acts ids sent past events event others o had.nodes now now' answers answers' had.records later later' had.way (subst P had.same h) in
@@ -534,52 +529,27 @@ module _ {N : Type 0} (acts : NodeActs N) where
           nodes = t.behind;
           records = had.records ++ r ∷ [];
           same = pushed ∙ ap (λ l. l ++ r ∷ []) had.same ∙ append_assoc past had.records (r ∷ []);
-          spared = let Q : List ClusterEvent → Type 0 = λ ran. AllButSpared acts before sent (done ++ event ∷ []) ran in
-              subst Q (sym (map-append (λ (x : Recorded). x.event) had.records (r ∷ []))) (spared_more before sent done (events_of had.records) event had.spared);
-          count = let n = had.count in omega (arith, length-append had.records (r ∷ []));
+          ran = map-append (λ (x : Recorded). x.event) had.records (r ∷ []) ∙ ap (λ es. es ++ event ∷ []) had.ran;
           runs = runs_on acts before sent past had.records had.nodes later r t.behind later' had.runs t.happens;
           way = t.way;
-          ids_first = had.ids_first;
           still = λ at place e there here.
               t.stays place (λ is. other_place sent ids place event e others at had.way.round there here is) ∙ had.still (suc at) place e there here;
+          kept = λ at place e there here.
+              t.keeps place (λ is. other_place sent ids place event e others at had.way.round there here is) ∙ had.kept (suc at) place e there here;
         }
 
-    -- the node that lacks memory is the event's own one, as it was before the round
-    lacking : (done others : List ClusterEvent) (event : ClusterEvent) (number : ℕ) (now : List N) (answers : List (Option Answer)) (history : List Recorded) (later : Sent)
-        → (had : HaveHadTurns done (event ∷ others) number now answers history later) → (wants : WantsMemory acts later (past ++ had.records) event now answers) → IsRefusedFor acts before sent event Memory
-    lacking done others event number now answers history later had wants =
-        let place = its_place acts ids sent past events event others had.nodes now answers had.records later had.way wants in
-        let there : slice_get before wants.place ≡ Some wants.node = sym (had.still 0 wants.place event refl place.here) ∙ place.there in
-        record {
-          node = wants.node;
-          named = found_at acts before (node_of sent event) wants.place wants.node (by_ids acts before (node_of sent event) ∙ ap (λ is. place_by is (node_of sent event)) had.ids_first ∙ place.here) there;
-          refuses = wants.refuses;
-        }
-
-    pub had_none : (done others : List ClusterEvent) (event : ClusterEvent) (number : ℕ) (now now' : List N) (answers answers' : List (Option Answer)) (history : List Recorded) (later later' : Sent)
-        → HaveHadTurns done (event ∷ others) number now answers history later → WantsMemory acts later history event now answers → now' ≡ now → answers' ≡ answers → later' ≡ later
-        → HaveHadTurns (done ++ event ∷ []) others number now' answers' history later'
-    had_none done others event number now now' answers answers' history later later' had wants same_now same_answers same_sent =
+    -- at no turn a node lacks memory where the crashes were asked for
+    pub none_lacks : (done others : List ClusterEvent) (event : ClusterEvent) (now : List N) (answers : List (Option Answer)) (history : List Recorded) (later : Sent)
+        → HaveHadTurns done (event ∷ others) now answers history later → AreAsked acts ids sent past events before waiting → WantsMemory acts later history event now answers → ⊥
+    none_lacks done others event now answers history later had asked wants =
         let P : List Recorded → Type 0 = λ hs. WantsMemory acts later hs event now answers in
-        let wants' = subst P had.same wants in
-        let way = passed_over acts ids sent past events event others had.nodes now answers had.records later had.way wants' in
-        let A : List N → Type 0 = λ ns. HaveHadTurns (done ++ event ∷ []) others number ns answers' history later' in
-        let B : List (Option Answer) → Type 0 = λ ws. HaveHadTurns (done ++ event ∷ []) others number now ws history later' in
-        let C : Sent → Type 0 = λ s. HaveHadTurns (done ++ event ∷ []) others number now answers history s in
-        subst A (sym same_now)
-        (subst B (sym same_answers)
-        (subst C (sym same_sent)
-        (record {
-          nodes = had.nodes;
-          records = had.records;
-          same = had.same;
-          spared = spared_over before sent done (events_of had.records) event (lacking done others event number now answers history later had wants') had.spared;
-          count = had.count;
-          runs = had.runs;
-          way = way;
-          ids_first = had.ids_first;
-          still = λ at place e there here. had.still (suc at) place e there here;
-        })))
+        let w = subst P had.same wants in
+        let at_place = its_place acts ids sent past events event others had.nodes now answers had.records later had.way w in
+        let there : slice_get before w.place ≡ Some w.node = sym (had.still 0 w.place event refl at_place.here) ∙ at_place.there in
+        let none : slice_get waiting w.place ≡ Some None = sym (had.kept 0 w.place event refl at_place.here) ∙ w.unanswered in
+        let crash = crash_refused event w.node Memory w.refuses in
+        let (at, among) = had.way.within 0 event refl in
+        asked at event among w.place w.node crash at_place.here there none (free_before sent later past (past ++ had.records) event w.node crash w.admitted)
 
     -- where no event is left the nodes are what they are, and nobody has an answer left
     settled_part : (place : ℕ) (old new : N) (answer : Option Answer) → HasPart acts ids sent past events [] place old new answer → (new ≡ old) × (answer ≡ None)
@@ -597,8 +567,8 @@ module _ {N : Type 0} (acts : NodeActs N) where
         let rest = all_settled xs ys ws (omega arith) (omega arith) (λ place old new answer e f h. parts (suc place) old new answer e f h) in
         let here = parts zero x y a refl refl refl in (ap (λ z. z ∷ ys) here.0 ∙ ap (λ l. x ∷ l) rest.0, (here.1, rest.1))
 
-    pub at_last : (done : List ClusterEvent) (number : ℕ) (now : List N) (answers : List (Option Answer)) (history : List Recorded) (later : Sent) → HaveHadTurns done [] number now answers history later → TakesTurns acts sent past before done number now answers later history
-    at_last done number now answers history later had =
+    pub at_last : (done : List ClusterEvent) (now : List N) (answers : List (Option Answer)) (history : List Recorded) (later : Sent) → HaveHadTurns done [] now answers history later → TakesTurns acts sent past before done now answers later history
+    at_last done now answers history later had =
         let ahead = had.way.ahead in
         let lengths : length now ≡ length had.nodes =
         sym (length-map now acts.id) ∙ ap length (ahead.ids_now ∙ sym ahead.ids_before) ∙ length-map had.nodes acts.id in
@@ -607,8 +577,7 @@ module _ {N : Type 0} (acts : NodeActs N) where
         record {
           records = had.records;
           history = had.same;
-          spared = had.spared;
-          count = had.count;
+          events = had.ran;
           runs = subst P (sym all.0) had.runs;
           idle = all.1;
         }
@@ -655,8 +624,8 @@ module _ {N : Type 0} (acts : NodeActs N) where
       let P : List Recorded → Type 0 = λ h. RunsTo acts mid gone h ys new later in
       (between, passed, first, runs_both between mid new passed gone later (history ++ x ∷ []) xs ys more (subst P (sym (append_assoc history (x ∷ []) xs)) rest))
 
-  pub reached_on : (sent later : Sent) (history behind : List Recorded) (nodes now : List N) (asked : List ClusterEvent) (number : ℕ) (answers : List (Option Answer)) → IsReached acts nodes sent history → TakesTurns acts sent history nodes asked number now answers later behind → IsReached acts now later behind
-  reached_on sent later history behind nodes now asked number answers reached turns =
+  pub reached_on : (sent later : Sent) (history behind : List Recorded) (nodes now : List N) (asked : List ClusterEvent) (answers : List (Option Answer)) → IsReached acts nodes sent history → TakesTurns acts sent history nodes asked now answers later behind → IsReached acts now later behind
+  reached_on sent later history behind nodes now asked answers reached turns =
       let P : List Recorded → Type 0 = λ h. RunsTo acts reached.first nothing_sent [] h now later in
       record {
         first = reached.first;
@@ -664,11 +633,11 @@ module _ {N : Type 0} (acts : NodeActs N) where
         runs = subst P (sym turns.history) (runs_both reached.first nodes now nothing_sent sent later [] history turns.records reached.runs turns.runs);
       }
 
-  pub rounds_so : (old new : ClusterValue N) (asked : List ClusterEvent) (number : ℕ) (answers : List (Option Answer)) → TakesTurns acts (frames_of old.sent) old.history old.nodes asked number new.nodes answers (frames_of new.sent) new.history → Rounds acts old asked number new
-  rounds_so old new asked number answers turns =
+  pub rounds_so : (old new : ClusterValue N) (asked : List ClusterEvent) (count : ℕ) (answers : List (Option Answer)) → RunsFront acts (frames_of old.sent) old.history old.nodes asked count new.nodes answers (frames_of new.sent) new.history → Rounds acts old asked count new
+  rounds_so old new asked count answers front =
+      let turns = front.turns in
       record {
-        ran = events_of turns.records;
-        spared = turns.spared;
-        count = turns.count ∙ sym (length-map turns.records (λ (r : Recorded). r.event));
-        runs = record { records = turns.records; history = turns.history; events = refl; runs = turns.runs };
+        within = front.within;
+        runs = record { records = turns.records; history = turns.history; events = turns.events; runs = turns.runs };
+        ends = front.ends;
       }

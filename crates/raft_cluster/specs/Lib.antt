@@ -3,6 +3,8 @@ pub mod Sending
 pub mod Happening
 pub mod Turn
 pub mod Cluster
+pub mod Fused
 pub mod Round
+pub mod Worked
 pub mod Joined
 pub mod Told

@@ -1,5 +1,6 @@
 -- A round: events that each are for another node, run at once.
-use Rattle.std.specs.Prelude.{◌≡◌, ◌⊎◌, ℕ, ◌==◌, Bool, true, false, not, ◌&&◌, List, [], ◌∷◌, ◌++◌, length, Option, Some, None, map, position, slice_get, slice_set}
+use Rattle.std.specs.Prelude.{◌≡◌, ◌⊎◌, ◌<◌, ◌≤◌, ℕ, ◌==◌, Bool, true, false, not, ◌&&◌, List, [], ◌∷◌, ◌++◌, length, take}
+use Rattle.std.specs.Prelude.{Option, Some, None, map, position, slice_get, slice_set}
 use Rattle.std.specs.List.{AllByRecursion, list_any}
 use Rattle.raft_cluster_conditions.specs.declared.reasons.ClusterRefusal.{ClusterRefusal}
 use Rattle.raft_cluster_conditions.specs.declared.reasons.NodeStanding.TheVariants.{Missing}
@@ -84,6 +85,18 @@ has_to_wait sent events (Fuse node first_refused) = false
 has_to_wait sent events (Crash node choice) = false
 has_to_wait sent events (Reopen node workers) = false
 
+-- ---- crashes, which come to their nodes first
+
+abbrev pub is_crash : ClusterEvent → Bool
+is_crash (AddGroup node group) = false
+is_crash (Ask node group call now) = false
+is_crash (Deliver group number cuts now) = false
+is_crash (ResetPeer node peer) = false
+is_crash (Clean node) = false
+is_crash (Fuse node first_refused) = false
+is_crash (Crash node choice) = true
+is_crash (Reopen node workers) = false
+
 -- ---- nodes ahead of their events' turns
 
 -- the place of the first of these ids
@@ -125,6 +138,17 @@ module _ {N : Type 0} (acts : NodeActs N) (ids : List ℕ) (sent : Sent) (histor
     pub parts : (place : ℕ) (old new : N) (answer : Option Answer) → slice_get before place ≡ Some old
         → slice_get now place ≡ Some new → slice_get answers place ≡ Some answer → HasPart left place old new answer
 
+module _ {N : Type 0} (acts : NodeActs N) (ids : List ℕ) (sent : Sent) (history : List Recorded) where
+  -- if the event is a crash to which its node has no answer, it is turned away: else it was asked for
+  abbrev pub IsAsked : ClusterEvent → List N → List (Option Answer) → Type 0
+  IsAsked event before answers =
+      (place : ℕ) (node : N) → is_crash event ≡ true → place_by ids (node_of sent event) ≡ Some place → slice_get before place ≡ Some node
+      → slice_get answers place ≡ Some None → refusal_for acts node sent history event ≡ None → ⊥
+
+  -- so it is of each of these
+  abbrev pub AreAsked : List ClusterEvent → List N → List (Option Answer) → Type 0
+  AreAsked asked before answers = (at : ℕ) (event : ClusterEvent) → slice_get asked at ≡ Some event → IsAsked event before answers
+
 -- ---- one event's turn
 
 module _ {N : Type 0} (acts : NodeActs N) (sent : Sent) (history : List Recorded) (event : ClusterEvent) (now : List N) (answers : List (Option Answer)) where
@@ -151,13 +175,14 @@ module _ {N : Type 0} (acts : NodeActs N) (sent : Sent) (history : List Recorded
     pub left : answers' ≡ slice_set answers place None
     pub happens : (before : N) → IsAtTurn acts sent history event before node answer → HappensAt acts before sent history event o later behind
 
-  -- its node, which has no answer, lacks memory for it: nothing happens
+  -- its node, which has no answer to it, lacks memory for it, and nothing turns it away: it doesn't happen
   pub record WantsMemory : Type 0 where
     pub place : ℕ
     pub node : N
     pub here : place_in acts now (node_of sent event) ≡ Some place
     pub there : slice_get now place ≡ Some node
     pub unanswered : slice_get answers place ≡ Some None
+    pub admitted : refusal_for acts node sent history event ≡ None
     pub refuses : RefusesFor acts event node Memory
 
   abbrev pub IsTurned : EventOutcome → List N → List (Option Answer) → Sent → Type 0
@@ -166,27 +191,29 @@ module _ {N : Type 0} (acts : NodeActs N) (sent : Sent) (history : List Recorded
 -- ---- a whole round
 
 module _ {N : Type 0} (acts : NodeActs N) where
-  -- these of the events happen, in their order: all but crashes for which their own node, as it is before the round, says that it lacks
-  -- memory
-  abbrev pub AllButSpared : List N → Sent → List ClusterEvent → List ClusterEvent → Type 0
-  AllButSpared nodes sent [] ran = ran ≡ []
-  AllButSpared nodes sent (event ∷ events) ran =
-      ((rest : List ClusterEvent) × (ran ≡ event ∷ rest) × AllButSpared nodes sent events rest)
-      ⊎ (IsRefusedFor acts nodes sent event Memory × AllButSpared nodes sent events ran)
+  -- of these events so many come before a crash for which its own node, as it is before the round, says that it lacks memory
+  abbrev pub LacksMemoryAt : List N → Sent → List ClusterEvent → ℕ → Type 0
+  LacksMemoryAt nodes sent asked count =
+      (event : ClusterEvent) × (slice_get asked count ≡ Some event) × IsRefusedFor acts nodes sent event Memory
 
-  -- the round did what these events do one after another
-  pub record Rounds (old : ClusterValue N) (asked : List ClusterEvent) (number : ℕ) (new : ClusterValue N) : Type 0 where
-    pub ran : List ClusterEvent
-    pub spared : AllButSpared old.nodes (frames_of old.sent) asked ran
-    pub count : number ≡ length ran
-    pub runs : Runs acts old ran new
+  -- the round did what so many of these events do one after another: all of them, or those before a crash whose node lacks memory
+  pub record Rounds (old : ClusterValue N) (asked : List ClusterEvent) (count : ℕ) (new : ClusterValue N) : Type 0 where
+    pub within : count ≤ length asked
+    pub runs : Runs acts old (take count asked) new
+    pub ends : count < length asked → LacksMemoryAt old.nodes (frames_of old.sent) asked count
 
-  -- these records lead from the one to the other, and no node has an answer left
-  pub record TakesTurns (sent : Sent) (past : List Recorded) (before : List N) (asked : List ClusterEvent) (number : ℕ)
+  -- records of these events lead from the one to the other, and no node has an answer left
+  pub record TakesTurns (sent : Sent) (past : List Recorded) (before : List N) (asked : List ClusterEvent)
       (now : List N) (answers : List (Option Answer)) (later : Sent) (behind : List Recorded) : Type 0 where
     pub records : List Recorded
     pub history : behind ≡ past ++ records
-    pub spared : AllButSpared before sent asked (events_of records)
-    pub count : number ≡ length records
+    pub events : events_of records ≡ asked
     pub runs : RunsTo acts before sent past records now later
     pub idle : are_idle answers
+
+  -- so it is of so many of these
+  pub record RunsFront (sent : Sent) (past : List Recorded) (before : List N) (asked : List ClusterEvent) (count : ℕ)
+      (now : List N) (answers : List (Option Answer)) (later : Sent) (behind : List Recorded) : Type 0 where
+    pub within : count ≤ length asked
+    pub turns : TakesTurns sent past before (take count asked) now answers later behind
+    pub ends : count < length asked → LacksMemoryAt before sent asked count

@@ -10,7 +10,8 @@ ghost use Rattle.raft_cluster.specs.Round.{Rounds, is_for_nodes, is_round};
 ghost use Rattle.raft_cluster.specs.Told.{told_at};
 
 use crate::facts::node_of;
-use crate::round::{RoundRefusal, ids_of, is_round, settle_all, work_all};
+use crate::front::run_front;
+use crate::round::{RoundRefusal, ids_of, is_round};
 use crate::slot::{Slot, slot_of, take_turn};
 use crate::told::told_of;
 use raft_cluster_events::{ClusterEvent, ClusterNode, Recorded};
@@ -173,11 +174,12 @@ where
     N::Machine: Send,
     N::Settings: Send,
 {
-    /// Runs the events of a round, each for another node, at once, and says how many happened (own):
-    /// all but crashes for which their nodes lack memory. The nodes are lent to threads in place. What
-    /// comes of it is what `run` gives on these events in their order: outcomes, numbers of frames,
-    /// nodes, history. Set-ups of one group are run in order, behind the threads. An `Err` changes
-    /// nothing: C8 where two events are for one node, or a frame wasn't sent before the round, else C10.
+    /// Runs the events of a round, each for another node, at once, and says how many happened (own): the
+    /// round ends before the first crash for which its node lacks memory, as `run` does. The nodes are
+    /// lent to threads in place. What comes of it is what `run` gives on these events in their order:
+    /// outcomes, numbers of frames, nodes, history. Crashes are asked of their nodes before the threads,
+    /// set-ups of one group behind them. An `Err` changes nothing: C8 where two events are for one node,
+    /// or a frame wasn't sent before the round, else C10.
     pub fn run_round<R: Threads + Sync>(
         &mut self,
         rt: &R,
@@ -200,18 +202,11 @@ where
             self.replays();
             return Err(RoundRefusal::Memory);
         };
-        work_all(
-            rt,
-            self.slots.as_mut_slice(),
-            ids.as_slice(),
-            &self.sent,
-            self.history.as_slice(),
-            events.as_slice(),
-        );
-        let count = settle_all(
+        let count = run_front(
             rt,
             self.alloc,
             &mut self.slots,
+            ids.as_slice(),
             &mut self.sent,
             &mut self.history,
             events,

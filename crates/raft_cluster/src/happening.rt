@@ -1,5 +1,5 @@
 //! An event comes to its node.
-ghost use Rattle.std.specs.Prelude.{◌≡◌, ◌∷◌, ℕ, [], IfOk, Ok, OnErr};
+ghost use Rattle.std.specs.Prelude.{◌≡◌, ◌∷◌, ℕ, [], IfOk, None, Ok, OnErr};
 ghost use Rattle.raft_sent_frames.specs.Frames.{frames_of};
 ghost use Rattle.raft_cluster_events.specs.declared.event.ClusterEvent.{ClusterEvent as Event};
 ghost use Rattle.raft_cluster_events.specs.declared.event.ClusterEvent.TheVariants.{Crash, Reopen};
@@ -8,7 +8,7 @@ ghost use Rattle.raft_cluster.specs.Facts.{Sent, delivered};
 ghost use Rattle.raft_node_laws.specs.Answered.{one_of, opening_of, some_of};
 ghost use Rattle.raft_cluster.specs.Happening.{Delivers, EndsAt, IsOfGroup, RefusesFor, Settles};
 ghost use Rattle.raft_cluster.specs.Happening.{Did, cleaned, over, turned_by};
-ghost use Rattle.raft_cluster.specs.Turn.{HappensAt, IsAnswered, quietly};
+ghost use Rattle.raft_cluster.specs.Turn.{HappensAt, IsAnswered, quietly, refusal_for};
 
 use crate::answer::Answer;
 use crate::delivery::deliver;
@@ -160,9 +160,9 @@ fn turned_by(why: CrashRefusal) -> Option<ClusterRefusal>
 
 // The node's machine stops, unless the node refuses that: then the crash is turned away. An `Err` is
 // the node's want of memory. Where it doesn't stop the node is as before.
-fn crash<N: ClusterNode>(node: &mut N, choice: CrashChoice) -> Result<Answer, AllocError>
-    ensures ok { IfOk result (λ a. (sent : Sent) (at : ℕ) → IsAnswered N.acts sent (Crash at choice) node.old a node.new) }
-    ensures memory { OnErr result (N.acts.refuses node.old choice Memory) }
+fn crash<N: ClusterNode>(node: &mut N, choice: &CrashChoice) -> Result<Answer, AllocError>
+    ensures ok { IfOk result (λ a. (sent : Sent) (at : ℕ) → IsAnswered N.acts sent (Crash at choice.now) node.old a node.new) }
+    ensures memory { OnErr result (N.acts.refuses node.old choice.now Memory) }
     ensures err { OnErr result (node.new ≡ node.old) }
 {
     match node.crash(choice) {
@@ -210,7 +210,7 @@ pub fn ask_node<N: ClusterNode, R: Threads + Sync>(
             node.fuse(*first_refused);
             Ok(Answer::Quiet(Ok(())))
         }
-        ClusterEvent::Crash { choice, .. } => crash(node, *choice),
+        ClusterEvent::Crash { choice, .. } => crash(node, choice),
         ClusterEvent::Reopen { workers, .. } => Ok(Answer::Opened(node.reopen(rt, *workers))),
     }
 }
@@ -263,6 +263,7 @@ pub fn happen_at<N: ClusterNode, R: Threads + Sync>(
     event: &ClusterEvent,
 ) -> Result<EventOutcome, AllocError>
     ensures ok { IfOk result (λ o. HappensAt N.acts node.old (frames_of sent.old) history.now event.now o (frames_of sent.new) node.new) }
+    ensures admitted { OnErr result (refusal_for N.acts node.old (frames_of sent.old) history.now event.now ≡ None) }
     ensures memory { OnErr result (RefusesFor N.acts event.now node.old Memory) }
     ensures node { OnErr result (node.new ≡ node.old) }
     ensures frames { OnErr result (sent.new ≡ sent.old) }

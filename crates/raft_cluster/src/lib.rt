@@ -3,8 +3,11 @@
 
 mod answer;
 mod cluster;
+mod crashes;
 mod delivery;
 mod facts;
+mod front;
+mod fused;
 mod happening;
 mod round;
 mod sending;
@@ -14,8 +17,9 @@ mod told;
 pub use cluster::Cluster;
 pub use raft_cluster_conditions::ClusterRefusal;
 pub use raft_cluster_events::{
-    ClusterEvent, ClusterNode, CrashChoice, CrashRefusal, EventOutcome, GroupOutcome, NodeError,
-    NodeFrame, NodeOutcome, NodeRefusal, Recorded, SentNumber, Sequence, Stop, StopCause,
+    ClusterEvent, ClusterNode, CrashChoice, CrashRefusal, EventOutcome, FileImage, GroupOutcome,
+    NodeError, NodeFrame, NodeOutcome, NodeRefusal, Recorded, SentNumber, Sequence, Stop,
+    StopCause,
 };
 pub use raft_sent_frames::SentFrame;
 pub use round::RoundRefusal;

@@ -1,14 +1,18 @@
 //! The events of a round, each for another node, come to their nodes at once.
-ghost use Rattle.std.specs.Prelude.{◌≡◌, ◌≤◌, ◌+◌, ◌==◌, ℕ, List, Some, None, length, map, position, slice_get, true, vec_capacity, vec_len, IfOk, IfSome};
+ghost use Rattle.std.specs.Prelude.{◌≡◌, ◌==◌, ℕ, List, Some, None, length, map, position, slice_get, true, IfOk, IfSome, OnErr, OnOk};
 ghost use Rattle.std.specs.Bool.{OnTrue};
 ghost use Rattle.std.specs.List.{list_any};
 ghost use Rattle.raft_sent_frames.specs.Frames.{frames_of};
+ghost use Rattle.raft_cluster_events.specs.declared.event.ClusterEvent.{ClusterEvent as Event};
+ghost use Rattle.raft_cluster_events.specs.declared.outcome.CrashRefusal.TheVariants.{Memory};
 ghost use Rattle.raft_cluster.specs.Facts.{node_of};
-ghost use Rattle.raft_cluster.specs.Round.{AreAhead, HasPart, IsFree, IsIn, TakesTurns, are_idle, has_to_wait, is_apart_from, is_for, is_round, is_set_up, place_by, sets_up, sets_up_elsewhere};
+ghost use Rattle.raft_cluster.specs.Happening.{RefusesFor};
+ghost use Rattle.raft_cluster.specs.Round.{AreAhead, HasPart, IsFree, IsIn, has_to_wait, is_apart_from, is_for, is_round, is_set_up, place_by, sets_up, sets_up_elsewhere};
+ghost use Rattle.raft_cluster.specs.Worked.{IsWorked};
 
 use crate::facts::{node_of, refusal_at};
 use crate::happening::ask_node;
-use crate::slot::{Slot, take_turn};
+use crate::slot::Slot;
 use raft_cluster_events::{ClusterEvent, ClusterNode, GroupCommand, Recorded};
 use raft_group_step::GroupCall;
 use raft_sent_frames::SentFrames;
@@ -129,12 +133,43 @@ fn is_free<N: ClusterNode>(
     events: &[ClusterEvent],
     event: &ClusterEvent,
 ) -> bool
-    ensures { OnTrue result (IsFree N.acts (frames_of sent.now) history.now events.now node.now event.now) }
+    ensures free { OnTrue result (IsFree N.acts (frames_of sent.now) history.now events.now node.now event.now) }
+    ensures waits { IsFree N.acts (frames_of sent.now) history.now events.now node.now event.now → result ≡ true }
 {
     match refusal_at(node, sent, history, event) {
         Some(_) => false,
         None => !has_to_wait(sent, events, event),
     }
+}
+
+/// A node is asked for an event, unless it has answered one, or the event has to wait for its turn. An
+/// `Err` is the node's want of memory for a crash, and changes nothing.
+pub fn ask_ahead<N: ClusterNode, R: Threads + Sync>(
+    rt: &R,
+    slot: &mut Slot<N>,
+    sent: &SentFrames,
+    history: &[Recorded],
+    events: &[ClusterEvent],
+    event: &ClusterEvent,
+) -> Result<(), AllocError>
+    ensures id { N.acts.id slot.new.node ≡ N.acts.id slot.old.node }
+    ensures part { (ids : List ℕ) (left : List Event) (place : ℕ) (before : _) → IsIn left event.now → place_by ids (node_of (frames_of sent.now) event.now) ≡ Some place
+        → HasPart N.acts ids (frames_of sent.now) history.now events.now left place before slot.old.node slot.old.answer
+        → HasPart N.acts ids (frames_of sent.now) history.now events.now left place before slot.new.node slot.new.answer }
+    ensures kept { slot.new.answer ≡ None → slot.old.answer ≡ None }
+    ensures waits { OnOk result (slot.new.answer ≡ None → IsFree N.acts (frames_of sent.now) history.now events.now slot.old.node event.now → ⊥) }
+    ensures memory { OnErr result ((slot.old.answer ≡ None) × RefusesFor N.acts event.now slot.old.node Memory) }
+    ensures node { OnErr result (slot.new.node ≡ slot.old.node) }
+    ensures answer { OnErr result (slot.new.answer ≡ slot.old.answer) }
+{
+    if slot.answer.is_some() {
+        return Ok(());
+    }
+    if !is_free(&slot.node, sent, history, events, event) {
+        return Ok(());
+    }
+    slot.answer = Some(ask_node(rt, &mut slot.node, sent, event)?);
+    Ok(())
 }
 
 // Where the first of these ids stands that is this one, if one does.
@@ -182,8 +217,8 @@ fn event_at<'a>(
     None
 }
 
-// The node at this place is asked for its event, if there is one that may come before its turn. Where
-// it lacks memory for a crash, that waits for its turn.
+// The node at this place is asked for its event, if there is one that may come before its turn, and
+// that wasn't asked for yet.
 fn work<N: ClusterNode, R: Threads + Sync>(
     rt: &R,
     slot: &mut Slot<N>,
@@ -193,17 +228,10 @@ fn work<N: ClusterNode, R: Threads + Sync>(
     history: &[Recorded],
     events: &[ClusterEvent],
 )
-    ensures id { N.acts.id slot.new.node ≡ N.acts.id slot.old.node }
-    ensures part { slot.old.answer ≡ None → HasPart N.acts ids.now (frames_of sent.now) history.now events.now events.now place slot.old.node slot.new.node slot.new.answer }
+    ensures { IsWorked N.acts ids.now (frames_of sent.now) history.now events.now place slot.old.node slot.old.answer slot.new.node slot.new.answer }
 {
-    let Some(event) = event_at(sent, ids, place, events) else {
-        return;
-    };
-    if !is_free(&slot.node, sent, history, events, event) {
-        return;
-    }
-    if let Ok(answer) = ask_node(rt, &mut slot.node, sent, event) {
-        slot.answer = Some(answer);
+    if let Some(event) = event_at(sent, ids, place, events) {
+        let _ = ask_ahead(rt, slot, sent, history, events, event);
     }
 }
 
@@ -231,21 +259,22 @@ where
     N::Machine: Send,
     N::Settings: Send,
     ensures length { length slots.new ≡ length slots.old }
-    ensures id { (place : ℕ) (old : _) (new : _) → slice_get slots.old place ≡ Some old → slice_get slots.new place ≡ Some new → N.acts.id new.node ≡ N.acts.id old.node }
-    ensures part { (place : ℕ) (old : _) (new : _) → slice_get slots.old place ≡ Some old → slice_get slots.new place ≡ Some new → old.answer ≡ None
-        → HasPart N.acts ids.now (frames_of sent.now) history.now events.now events.now place old.node new.node new.answer }
+    ensures worked { (place : ℕ) (old : _) (new : _) → slice_get slots.old place ≡ Some old → slice_get slots.new place ≡ Some new
+        → IsWorked N.acts ids.now (frames_of sent.now) history.now events.now place old.node old.answer new.node new.answer }
 {
     let threads = slots.len().max(1);
     for_each_mut(
         rt,
         slots,
         threads,
-        &|place, slot: &mut Slot<N>| { work(rt, slot, place, ids, sent, history, events) },
+        &|place, slot: &mut Slot<N>|
+            ensures { IsWorked N.acts ids.entry.now (frames_of sent.entry.now) history.entry.now events.entry.now place slot.old.node slot.old.answer slot.new.node slot.new.answer }
+        { work(rt, slot, place, ids, sent, history, events) },
     );
 }
 
 /// The events that may come before their turns come to their nodes, each on a thread of its own where
-/// one can be made. The nodes are lent in place, and nothing here lacks memory.
+/// one can be made. The nodes are lent in place; one that has an answer keeps it.
 pub fn work_all<N: ClusterNode + Send, R: Threads + Sync>(
     rt: &R,
     slots: &mut [Slot<N>],
@@ -257,38 +286,11 @@ pub fn work_all<N: ClusterNode + Send, R: Threads + Sync>(
 where
     N::Machine: Send,
     N::Settings: Send,
-    requires ids { ids.now ≡ map (λ slot. N.acts.id slot.node) slots.old }
-    requires idle { are_idle (map (λ slot. slot.answer) slots.old) }
-    ensures { AreAhead N.acts ids.now (frames_of sent.now) history.now events.now events.now
-        (map (λ slot. slot.node) slots.old) (map (λ slot. slot.node) slots.new) (map (λ slot. slot.answer) slots.new) }
+    ensures ahead { (before : List _) → AreAhead N.acts ids.now (frames_of sent.now) history.now events.now events.now
+        before (map (λ slot. slot.node) slots.old) (map (λ slot. slot.answer) slots.old)
+        → AreAhead N.acts ids.now (frames_of sent.now) history.now events.now events.now
+        before (map (λ slot. slot.node) slots.new) (map (λ slot. slot.answer) slots.new) }
+    ensures kept { (place : ℕ) → slice_get (map (λ slot. slot.answer) slots.new) place ≡ Some None → slice_get (map (λ slot. slot.answer) slots.old) place ≡ Some None }
 {
     work_each(rt, slots, ids, sent, history, events);
-}
-
-/// The turns of the events come, one after another, and says how many of them happened: all but crashes
-/// for which a node lacks memory.
-pub fn settle_all<N: ClusterNode, R: Threads + Sync>(
-    rt: &R,
-    alloc: Global,
-    slots: &mut Vec<Slot<N>>,
-    sent: &mut SentFrames,
-    history: &mut Vec<Recorded>,
-    events: Vec<ClusterEvent>,
-) -> usize
-    requires room { vec_len history.old + vec_len events ≤ vec_capacity history.old }
-    ensures { (ids : List ℕ) (before : List _)
-        → is_round (frames_of sent.old) events.items ≡ true
-        → AreAhead N.acts ids (frames_of sent.old) history.old.items events.items events.items before
-        (map (λ slot. slot.node) slots.old.items) (map (λ slot. slot.answer) slots.old.items)
-        → TakesTurns N.acts (frames_of sent.old) history.old.items before events.items result
-        (map (λ slot. slot.node) slots.new.items) (map (λ slot. slot.answer) slots.new.items) (frames_of sent.new) history.new.items }
-{
-    let mut count = 0;
-    for event in events {
-        if let Ok(outcome) = take_turn(rt, alloc, slots, sent, history.as_slice(), &event) {
-            history.push_reserved(Recorded { event, outcome });
-            count += 1;
-        }
-    }
-    count
 }

@@ -7,7 +7,7 @@ ghost use Rattle.raft_cluster_events.specs.declared.outcome.CrashRefusal.TheVari
 ghost use Rattle.raft_cluster.specs.Facts.{place_in, node_of};
 ghost use Rattle.raft_cluster.specs.Happening.{RefusesFor};
 ghost use Rattle.raft_cluster.specs.Round.{IsTurned, WantsMemory};
-ghost use Rattle.raft_cluster.specs.Turn.{HappensAt, IsAtTurn};
+ghost use Rattle.raft_cluster.specs.Turn.{HappensAt, IsAtTurn, refusal_for};
 
 use crate::answer::Answer;
 use crate::facts::{node_of, refusal_nowhere};
@@ -47,6 +47,7 @@ impl<N: ClusterNode> Slot<N> {
         ensures ok { IfOk result (λ o. (before : _)
             → IsAtTurn N.acts (frames_of sent.old) history.now event.now before self.old.node self.old.answer
             → HappensAt N.acts before (frames_of sent.old) history.now event.now o (frames_of sent.new) self.new.node) }
+        ensures admitted { OnErr result (refusal_for N.acts self.old.node (frames_of sent.old) history.now event.now ≡ None) }
         ensures memory { OnErr result ((self.old.answer ≡ None) × RefusesFor N.acts event.now self.old.node Memory) }
         ensures node { OnErr result (self.new.node ≡ self.old.node) }
         ensures frames { OnErr result (sent.new ≡ sent.old) }
@@ -73,8 +74,8 @@ fn position_of<N: ClusterNode>(slots: &[Slot<N>], id: u64) -> Option<usize>
     slots.iter().position(|slot| slot.node.id() == id)
 }
 
-// Where the node of this id stands among these, if it does.
-fn place_of<N: ClusterNode>(slots: &[Slot<N>], id: Option<u64>) -> Option<usize>
+/// Where the node of this id stands among these, if it does.
+pub fn place_of<N: ClusterNode>(slots: &[Slot<N>], id: Option<u64>) -> Option<usize>
     ensures within { IfSome result (λ place. place < length slots.now) }
     ensures first { result ≡ place_in N.acts (map (λ slot. slot.node) slots.now) id }
 {

@@ -7,13 +7,24 @@ use raft_state::{BasicNode, Bytes};
 /// What a node is asked for in a group.
 pub type GroupCommand = GroupCall<u64, BasicNode, Bytes>;
 
+/// What a crash leaves of one file of a node (own).
+#[derive(Drop)]
+pub struct FileImage {
+    /// The file's path.
+    pub path: String,
+    /// Its bytes.
+    pub bytes: Vec<u8>,
+}
+
 /// What a crash leaves of a node's files (own).
-#[derive(Clone, Copy, Debug, PartialEq, Eq)]
+#[derive(Drop)]
 pub enum CrashChoice {
     /// What was synced.
     Least,
     /// What reads see.
     Most,
+    /// These bytes, for each file once. The node refuses them where no crash leaves its files so.
+    Bytes(Sequence<FileImage>),
 }
 
 /// An event of a cluster (own). Nodes, groups and peers are named by their ids; a moment `now` is in

@@ -5,7 +5,7 @@ mod event;
 mod node;
 mod outcome;
 
-pub use event::{ClusterEvent, CrashChoice, GroupCommand};
+pub use event::{ClusterEvent, CrashChoice, FileImage, GroupCommand};
 pub use node::{ClusterNode, NodeOutcome};
 pub use outcome::{
     CrashRefusal, EventOutcome, GroupOutcome, NodeError, NodeRefusal, Recorded, Stop, StopCause,

@@ -110,9 +110,9 @@ pub trait ClusterNode: Drop {
 
     /// The node's machine stops, and leaves of its files what the choice says: the node is down. An
     /// `Err` says why its files can't be left so, and changes nothing.
-    fn crash(&mut self, choice: CrashChoice) -> Result<(), CrashRefusal>
-        ensures does { OnOk result (acts.crashes self.old choice self.new) }
-        ensures why { IfErr result (λ why. acts.refuses self.old choice why) }
+    fn crash(&mut self, choice: &CrashChoice) -> Result<(), CrashRefusal>
+        ensures does { OnOk result (acts.crashes self.old choice.now self.new) }
+        ensures why { IfErr result (λ why. acts.refuses self.old choice.now why) }
         ensures refused { OnErr result (self.new ≡ self.old) }
         ensures id { acts.id self.new ≡ acts.id self.old }
         ensures down { OnOk result (acts.is_up self.new ≡ false) };

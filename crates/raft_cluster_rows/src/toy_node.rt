@@ -253,7 +253,7 @@ impl ClusterNode for ToyNode {
         self.is_fused = first_refused.is_some();
     }
 
-    fn crash(&mut self, choice: CrashChoice) -> Result<(), CrashRefusal> {
+    fn crash(&mut self, choice: &CrashChoice) -> Result<(), CrashRefusal> {
         match (choice, self.purged) {
             (CrashChoice::Most, 6) => Err(CrashRefusal::ByChance),
             (CrashChoice::Most, 7) => Err(CrashRefusal::NotAnImage),

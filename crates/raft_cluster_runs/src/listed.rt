@@ -94,11 +94,13 @@ impl<K: NodeKind> Listed<K> {
         }
     }
 
-    // The event of a line happens behind its fuse. A node that stopped in it crashes.
+    // The event of a line happens behind its fuse. A node that stopped in it crashes, and leaves what the
+    // choice says.
     fn happen_fused<R: Threads + Sync>(
         &mut self,
         rt: &R,
         line: &str,
+        choice: CrashChoice,
     ) -> Result<String, AllocError> {
         let at = self.cluster.history().len().saturating_add(1);
         let events = self.lines.events(&self.cluster, line)?;
@@ -107,7 +109,6 @@ impl<K: NodeKind> Listed<K> {
             return outcomes_text(self.alloc, self.record(at));
         };
         let mut crash = Vec::new(self.alloc);
-        let choice = CrashChoice::Least;
         crash.push(ClusterEvent::Crash { node, choice })?;
         K::run(rt, &mut self.cluster, crash);
         String::from_str(self.alloc, "stopped")
@@ -128,12 +129,20 @@ impl<K: NodeKind> Listed<K> {
         Ok(())
     }
 
+    // A line of events; one with `most` before a fuse leaves what reads see.
+    fn events_line<R: Threads + Sync>(&mut self, rt: &R, line: &str) -> Result<String, AllocError> {
+        match line.strip_prefix("most ") {
+            Some(fused) => self.happen_fused(rt, fused, CrashChoice::Most),
+            None if line.starts_with("fuse ") => self.happen_fused(rt, line, CrashChoice::Least),
+            None => self.happen(rt, line),
+        }
+    }
+
     /// What a line is answered by. It may have several events, with `; ` between them.
     pub fn line<R: Threads + Sync>(&mut self, rt: &R, line: &str) -> Result<String, AllocError> {
         let mut text = match line.strip_prefix("nodes ") {
             Some(count) => self.begin(rt, number_of(count).unwrap_or(0))?,
-            None if line.starts_with("fuse ") => self.happen_fused(rt, line)?,
-            None => self.happen(rt, line)?,
+            None => self.events_line(rt, line)?,
         };
         for group in FIRST..END {
             self.push_entries(&mut text, group)?;

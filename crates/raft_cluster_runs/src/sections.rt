@@ -3,8 +3,8 @@
 //!
 //! - `, rounds`: each line is a round on three nodes, events with `; ` between them, beside the same events
 //!   one after another;
-//! - `, listed`: a script on a cluster that keeps the list of each group; `, listed in memory` is the same
-//!   over logs in memory;
+//! - `, listed`: a script on a cluster that keeps the list of each group; behind a fuse with `most` before
+//!   it a crash leaves what reads see. `, listed in memory` is the same over logs in memory;
 //! - `, bench`: each line is a task whose work is counted;
 //! - `, in memory`: a script on nodes over logs in memory; how it ended is the last line;
 //! - `, small files`: a script on nodes whose log files have 1 KB, and are cleaned past 4 KB;

@@ -1,10 +1,11 @@
 -- What a line shows.
-use Rattle.std.proofs.Common.{◌≡◌, refl, sym, ap, ◌∙◌, ◌+◌, ◌<◌, [], ◌∷◌, ◌++◌, length, map, take, get_or, List, ℕ, Option, Some, None, Result, Ok, Err, IfOk, IfSome}
+use Rattle.std.proofs.Common.{◌≡◌, sym, ap, ◌∙◌, ◌+◌, ◌<◌, [], ◌∷◌, ◌++◌, length, map, take, get_or, List, ℕ, Option, Some, None, Result, Ok, Err, IfOk, IfSome}
 use Rattle.std.proofs.lemmas.List.{map-append, take_more}
 use Rattle.raft_cluster_events.specs.declared.event.ClusterEvent.{ClusterEvent}
 use Rattle.raft_cluster_events.specs.declared.outcome.Recorded.{Recorded}
 use Rattle.raft_cluster_events.specs.Node.{NodeActs}
 use Rattle.raft_cluster.specs.Cluster.{ClusterValue, Steps}
+use Rattle.raft_cluster.proofs.FusedLemmas.{outcome_there}
 use Rattle.raft_cluster_script.specs.Answers.{outcome_text}
 use Rattle.raft_cluster_script.specs.Script.{StepsSo}
 
@@ -22,19 +23,8 @@ more_named f g old new x ids i inside h pushed same =
     ∙ sym (map-append g (take i ids) (get_or ids i 0 ∷ []))
     ∙ ap (map g) (sym (take_more ids i 0 inside))
 
-at_end : (xs : List Recorded) (x d : Recorded) → get_or (xs ++ x ∷ []) (length xs) d ≡ x
-at_end [] x d = refl
-at_end (y ∷ ys) x d = at_end ys x d
-
 module _ {N : Type 0} (acts : NodeActs N) where
-  -- what stands at the end behind an event is its record
-  pub outcome_there : (old new : ClusterValue N) (event : ClusterEvent) (steps : Steps acts old event new) (d : Recorded) (all : List Recorded) (at : ℕ) → all ≡ new.history → at ≡ length old.history
-      → (get_or all at d).outcome ≡ steps.outcome
-  outcome_there old new event steps d all at whole place =
-      let r : Recorded = record { event = event; outcome = steps.outcome } in
-      ap (λ (s : Recorded). s.outcome) (ap (λ l. get_or l at d) (whole ∙ steps.history) ∙ ap (λ n. get_or (old.history ++ r ∷ []) n d) place ∙ at_end old.history r d)
-
   pub shows_step : {X E : Type 0} (r : Result X E) (bytes : X → List ℕ) (old new : ClusterValue N) (event : ClusterEvent) (steps : Steps acts old event new) (d : Recorded) (all : List Recorded) (at : ℕ) → all ≡ new.history → at ≡ length old.history → IfOk r (λ x. bytes x ≡ outcome_text (get_or all at d).outcome) → IfOk r (λ x. StepsSo acts old event (bytes x) new)
   shows_step (Ok x) bytes old new event steps d all at whole place text =
-      record { steps = steps; text = text ∙ ap outcome_text (outcome_there old new event steps d all at whole place) }
+      record { steps = steps; text = text ∙ ap outcome_text (outcome_there acts old new event steps d all at whole place) }
   shows_step (Err e) bytes old new event steps d all at whole place text = tt

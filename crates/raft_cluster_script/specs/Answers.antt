@@ -1,5 +1,5 @@
 -- The text of what came of an event.
-use Rattle.std.specs.Prelude.{Bool, true, false, ℕ, ◌==◌, nat_lt, not, List, [], ◌++◌, filter, length, map, Option, Some, None, if◌then◌else◌}
+use Rattle.std.specs.Prelude.{ℕ, ◌==◌, nat_lt, not, List, [], ◌++◌, filter, length, map, Option, Some, None, if◌then◌else◌}
 use Rattle.std.specs.List.{flat_map}
 use Rattle.raft_machines.specs.declared.telling.Told.{Told}
 use Rattle.raft_machines.specs.declared.telling.UnknownTokens.{UnknownTokens}
@@ -14,9 +14,8 @@ use Rattle.raft_cluster_events.specs.declared.outcome.GroupOutcome.{GroupOutcome
 use Rattle.raft_cluster_events.specs.declared.outcome.NodeRefusal.{NodeRefusal}
 use Rattle.raft_cluster_events.specs.declared.outcome.NodeRefusal.TheVariants as node
 use Rattle.raft_cluster_events.specs.declared.outcome.Stop.{Stop}
-use Rattle.raft_cluster_events.specs.declared.outcome.StopCause.{StopCause}
-use Rattle.raft_cluster_events.specs.declared.outcome.StopCause.TheVariants as causes
 use Rattle.raft_cluster_events.specs.declared.outcome.Unsaid.{Unsaid}
+use Rattle.raft_cluster.specs.Fused.{is_cut}
 use Rattle.raft_script_answers.specs.declared.refusal.Refusal.{Refusal}
 use Rattle.raft_script_answers.specs.declared.refusal.Refusal.TheVariants as shown
 use Rattle.raft_script_answers.specs.declared.told_total.SentNumber.{SentNumber as ShownNumber}
@@ -98,21 +97,6 @@ outcome_text (outcomes.Cleaned groups) = done_text [] [] [] groups
 outcome_text (outcomes.Refused why) = refused_text (refusal_of_node why) []
 outcome_text (outcomes.Stopped stop) = refused_text shown.Stopped (tokens_of_stop stop)
 outcome_text (outcomes.TurnedAway why) = refused_text (refusal_of_cluster why) []
-
--- it stopped at a call that its node's files refused
-abbrev pub is_refused_call : StopCause → Bool
-is_refused_call causes.Io = true
-is_refused_call causes.TryAgain = false
-is_refused_call causes.Memory = false
-is_refused_call causes.TooLong = false
-is_refused_call causes.Other = false
-
-abbrev pub is_cut : EventOutcome → Bool
-is_cut (outcomes.Done parts) = false
-is_cut (outcomes.Cleaned groups) = false
-is_cut (outcomes.Refused why) = false
-is_cut (outcomes.Stopped stop) = is_refused_call stop.cause
-is_cut (outcomes.TurnedAway why) = false
 
 -- behind a fuse: a machine that stopped inside the event tells nobody
 abbrev pub fused_text : EventOutcome → List ℕ

@@ -1,5 +1,5 @@
 -- What a line of a script does, and is answered.
-use Rattle.std.specs.Prelude.{◌≡◌, Bool, true, false, ℕ, List, [], ◌++◌, Option, Some, None, Result, Ok, Err, codes}
+use Rattle.std.specs.Prelude.{◌≡◌, Bool, ℕ, List, [], ◌++◌, Option, Some, None, Result, Ok, Err, codes}
 use Rattle.std.specs.List.{range_with_len}
 use Rattle.raft_machines.specs.Adding.{total_of}
 use Rattle.raft_script_answers.specs.declared.told_total.AppliedTotal.{AppliedTotal}
@@ -11,15 +11,15 @@ use Rattle.raft_script_lines.specs.Reading.{line_of}
 use Rattle.raft_script_session.specs.declared.end.ScriptEnd.{ScriptEnd}
 use Rattle.raft_script_session.specs.Run.{Answers}
 use Rattle.raft_cluster_events.specs.declared.event.ClusterEvent.{ClusterEvent}
-use Rattle.raft_cluster_events.specs.declared.event.ClusterEvent.TheVariants as events
 use Rattle.raft_cluster_events.specs.declared.event.CrashChoice.TheVariants as choices
 use Rattle.raft_cluster_events.specs.Node.{NodeActs}
 use Rattle.raft_cluster.specs.Cluster.{ClusterValue, Steps}
 use Rattle.raft_cluster.specs.Facts.{node_in, node_of}
+use Rattle.raft_cluster.specs.Fused.{StepsFused, outcome_of}
 use Rattle.raft_cluster.specs.Joined.{ids_of}
 use Rattle.raft_sent_frames.specs.Frames.{frames_of}
 use Rattle.raft_cluster_script.specs.Calls.{event_of, tokens_after}
-use Rattle.raft_cluster_script.specs.Answers.{fused_text, is_cut, outcome_text}
+use Rattle.raft_cluster_script.specs.Answers.{fused_text, outcome_text}
 
 pub record ScriptValue (N : Type 0) : Type 0 where
   -- from the line `nodes` on
@@ -47,38 +47,17 @@ module _ {N : Type 0} (acts : NodeActs N) where
     pub steps : Steps acts old event new
     pub text : shown ≡ outcome_text steps.outcome
 
-  -- the same behind a fuse of its node's files, where it may be cut off
-  pub record CutSo (old : ClusterValue N) (event : ClusterEvent) (shown : List ℕ) (cut : Bool) (new : ClusterValue N) : Type 0 where
-    pub steps : Steps acts old event new
-    pub text : shown ≡ fused_text steps.outcome
-    pub is : cut ≡ is_cut steps.outcome
-
-  -- a machine that stopped inside an event leaves what was synced
-  abbrev pub EndsCut : Bool → ℕ → ClusterValue N → ClusterValue N → Type 0
-  EndsCut true node old new = Steps acts old (events.Crash node choices.Least) new
-  EndsCut false node old new = new ≡ old
-
-  -- the node's files refuse calls from this one on, until the event is over
-  pub record StepsFused (node first : ℕ) (old : ClusterValue N) (event : ClusterEvent) (shown : List ℕ) (new : ClusterValue N) : Type 0 where
-    pub fused : ClusterValue N
-    pub behind : ClusterValue N
-    pub lifted : ClusterValue N
+  -- the same behind a fuse of its node's files, if it is for one: where it was cut off the machine leaves what was synced
+  pub record FusedSo (first : ℕ) (old : ClusterValue N) (event : ClusterEvent) (shown : List ℕ) (new : ClusterValue N) : Type 0 where
     pub cut : Bool
-    pub fuse : Steps acts old (events.Fuse node (Some first)) fused
-    pub happens : CutSo fused event shown cut behind
-    pub lift : Steps acts behind (events.Fuse node None) lifted
-    pub ends : EndsCut cut node lifted new
-
-  -- an event that is for no node gets no fuse
-  abbrev pub StepsFusedAt : Option ℕ → ℕ → ClusterValue N → ClusterEvent → List ℕ → ClusterValue N → Type 0
-  StepsFusedAt None first old event shown new = StepsSo old event shown new
-  StepsFusedAt (Some node) first old event shown new = StepsFused node first old event shown new
+    pub steps : StepsFused acts (node_of (frames_of old.sent) event) first choices.Least old event cut new
+    pub text : shown ≡ fused_text (outcome_of acts (node_of (frames_of old.sent) event) first choices.Least old event cut new steps)
 
   -- so it is answered
   pub record HappensFused (old : ScriptValue N) (cluster : ClusterValue N) (event : ClusterEvent) (first tokens : ℕ) (shown : Option (List ℕ)) (next : ScriptValue N) : Type 0 where
     pub later : ClusterValue N
     pub text : List ℕ
-    pub steps : StepsFusedAt (node_of (frames_of cluster.sent) event) first cluster event text later
+    pub steps : FusedSo first cluster event text later
     pub answer : shown ≡ Some text
     pub new : next ≡ record { cluster = Some later; tokens = tokens; tick = old.tick }
 

@@ -2,9 +2,7 @@
 ghost use Rattle.std.specs.Prelude.{◌≡◌, IfOk, string_bytes, None, [], List, ℕ};
 ghost use Rattle.std.specs.List.{range_with_len};
 ghost use Rattle.std.specs.Option.{option_map};
-ghost use Rattle.raft_cluster_script.specs.Script.{AsksTotal, BeginsOnce, RunsLine, SetsNow, StepsFusedAt, StepsSo, Takes, TakesFused, TakesLine};
-ghost use Rattle.raft_cluster.specs.Facts.{node_of};
-ghost use Rattle.raft_sent_frames.specs.Frames.{frames_of};
+ghost use Rattle.raft_cluster_script.specs.Script.{AsksTotal, BeginsOnce, RunsLine, SetsNow, StepsSo, Takes, TakesFused, TakesLine};
 ghost use Rattle.raft_cluster_script.specs.Calls.{event_of, tokens_after};
 
 use crate::answers::{outcome_text, total_at};
@@ -60,22 +58,6 @@ fn happen_in<N: ClusterNode<Machine = AddingMachine>, R: Threads + Sync>(
     let at = cluster.history().len();
     cluster.step(rt, event)?;
     outcome_text(alloc, &cluster.history()[at].outcome)
-}
-
-// The same behind a fuse of its node's files, if it is for a node.
-fn fused_in<N: ClusterNode<Machine = AddingMachine>, R: Threads + Sync>(
-    rt: &R,
-    alloc: Global,
-    cluster: &mut Cluster<N>,
-    first: u64,
-    event: ClusterEvent,
-) -> Result<String, AllocError>
-    ensures { IfOk result (λ text. StepsFusedAt N.acts (node_of (frames_of cluster.old.sent) event) first cluster.old event (string_bytes text) cluster.new) }
-{
-    match cluster.node_of(&event) {
-        Some(node) => happen_fused(rt, alloc, cluster, node, first, event),
-        None => happen_in(rt, alloc, cluster, event),
-    }
 }
 
 impl<N: ClusterNode<Machine = AddingMachine>> Script<N> {
@@ -158,7 +140,7 @@ impl<N: ClusterNode<Machine = AddingMachine>> Script<N> {
     {
         match (&mut self.cluster, event) {
             (Some(cluster), Some(event)) => {
-                let text = fused_in(rt, self.alloc, cluster, first, event)?;
+                let text = happen_fused(rt, self.alloc, cluster, first, event)?;
                 self.tokens = tokens;
                 Ok(Some(text))
             }

@@ -1,7 +1,8 @@
 -- What a crash may leave of a log, and what calls leave of it. A content has entries as their bytes.
-use Rattle.std.specs.Prelude.{◌≡◌, ◌≢◌, ◌⊎◌, ◌+◌, ◌-◌, ◌<◌, ℕ, List, length, slice_get, Option}
-use Rattle.std.specs.List.{AllByRecursion}
+use Rattle.std.specs.Prelude.{◌≡◌, ◌≢◌, ◌⊎◌, ◌+◌, ◌-◌, ◌<◌, ◌≤◌, ℕ, false, List, length, slice_get, IsSome, Option}
+use Rattle.std.specs.List.{AllByRecursion, list_any}
 use Rattle.raft_log_records.specs.Item.{Item}
+use Rattle.raft_log_records.specs.Spelling.{holds_mark}
 use Rattle.raft_log_memtables.specs.Content.{Content}
 
 -- the contents that a crash may leave
@@ -51,3 +52,11 @@ pub record MayBeWritten (sound : Type 0) (answered : Content (List ℕ)) (leaves
 pub record AreEntries (entry : ℕ → Option (List ℕ)) (begin end : ℕ) (found : List (List ℕ)) : Type 0 where
   pub len : length found ≡ end - begin
   pub each : (i : ℕ) → i < end - begin → slice_get found i ≡ entry (begin + i)
+
+-- none of its items marks it as a part of an atomic group
+abbrev pub AreUnmarked : List (Item (List ℕ)) → Type 0
+AreUnmarked items = list_any holds_mark items ≡ false
+
+-- each index from one on up to before another one has an entry
+abbrev pub AreThere : (ℕ → Option (List ℕ)) → ℕ → ℕ → Type 0
+AreThere entry begin end = (i : ℕ) → begin ≤ i → i < end → IsSome (entry i)

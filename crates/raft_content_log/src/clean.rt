@@ -1,7 +1,8 @@
 //! What is asked of a log that can be cleaned.
-ghost use Rattle.std.specs.Prelude.{◌≡◌, ℕ, List, IfOk, None, OnOk};
+ghost use Rattle.std.specs.Prelude.{◌≡◌, ℕ, List, IfOk, OnOk};
 ghost use Rattle.std.specs.List.Sorted.{IsStrictlySortedBy};
 ghost use Rattle.std.specs.Ordering.{nat_cmp};
+ghost use Rattle.std.specs.Result.{result_err};
 ghost use Rattle.raft_content_log.specs.Leaving.{LeavesNoMore};
 
 use crate::content_log::ContentLog;
@@ -17,5 +18,5 @@ pub trait CleanLog: ContentLog {
         ensures sound { Self.ContentLog.is_sound self.old → OnOk result (Self.ContentLog.is_sound self.new) }
         ensures kept { Self.ContentLog.is_sound self.new → Self.ContentLog.is_sound self.old × (Self.ContentLog.answers self.new ≡ Self.ContentLog.answers self.old) }
         ensures left { LeavesNoMore (Self.ContentLog.leaves self.old) (Self.ContentLog.leaves self.new) }
-        ensures met { OnOk result (Self.ContentLog.meets self.old self.new None) };
+        ensures met { Self.ContentLog.meets self.old self.new (result_err result) };
 }

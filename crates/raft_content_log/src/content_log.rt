@@ -1,10 +1,10 @@
 //! What is asked of a log.
-ghost use Rattle.std.specs.Prelude.{◌≡◌, ℕ, List, OnOk, OnErr, IfOk, Option, None, false, option_map};
+ghost use Rattle.std.specs.Prelude.{◌≡◌, ◌<◌, ℕ, List, OnOk, OnErr, IfErr, IfOk, Option, None, false, option_map};
 ghost use Rattle.std.specs.List.Sorted.{IsStrictlySortedBy};
 ghost use Rattle.std.specs.Ordering.{eq_by_cmp, nat_cmp};
 ghost use Rattle.std.specs.Result.{result_err};
 ghost use Rattle.std.specs.Set.{is_member};
-ghost use Rattle.raft_content_log.specs.Leaving.{AgreesElsewhere, AreEntries, IsWritten};
+ghost use Rattle.raft_content_log.specs.Leaving.{AgreesElsewhere, AreEntries, AreThere, AreUnmarked, IsWritten};
 ghost use Rattle.raft_content_log.specs.Leaving.{LeavesElsewhere, LeavesNoMore, MayBeWritten};
 ghost use Rattle.raft_log_memtables.specs.Content.{Content, after_batch, no_group};
 ghost use Rattle.raft_log_memtables.specs.Taken.{TakesEach};
@@ -33,6 +33,9 @@ pub trait ContentLog: Drop {
     /// a log tells why it fails.
     ghost meets: { Self → Self → Option Self.Fault → Type 0 };
 
+    /// The fault tells of a misuse: the batch isn't taken, or an entry that is asked for isn't there.
+    ghost is_misuse: { Self.Fault → Type 0 };
+
     /// Writes a batch, whole or not at all, and syncs it (own). It may be refused where its entries
     /// don't begin inside their group's list or at its end; nothing is promised of such a batch but
     /// that it leaves other groups alone. After an `Ok` the batch is empty.
@@ -46,7 +49,8 @@ pub trait ContentLog: Drop {
         // The two others hold of each call, whatever it answers and whether one had failed before.
         ensures others { LeavesElsewhere batch.old.items (leaves self.old) (leaves self.new) }
         ensures others_answered { is_sound self.new → is_sound self.old × AgreesElsewhere batch.old.items (answers self.new) (answers self.old) }
-        ensures met { meets self.old self.new (result_err result) };
+        ensures met { meets self.old self.new (result_err result) }
+        ensures fits { is_sound self.old → AreUnmarked batch.old.items → TakesEach batch.old.items (answers self.old) → IfErr result (λ fault. is_misuse fault → ⊥) };
 
     /// The value of a key of a group, if it is there (own).
     fn get(&mut self, group: u64, key: &[u8]) -> Result<Option<Vec<u8>>, Self::Fault>
@@ -54,7 +58,8 @@ pub trait ContentLog: Drop {
         ensures sound { is_sound self.old → OnOk result (is_sound self.new) }
         ensures kept { is_sound self.new → is_sound self.old × (answers self.new ≡ answers self.old) }
         ensures left { LeavesNoMore (leaves self.old) (leaves self.new) }
-        ensures met { meets self.old self.new (result_err result) };
+        ensures met { meets self.old self.new (result_err result) }
+        ensures fits { IfErr result (λ fault. is_misuse fault → ⊥) };
 
     /// A group's entries from an index on up to another one, which is left out (own). It fails where
     /// one of them isn't there.
@@ -68,7 +73,8 @@ pub trait ContentLog: Drop {
         ensures sound { is_sound self.old → OnOk result (is_sound self.new) }
         ensures kept { is_sound self.new → is_sound self.old × (answers self.new ≡ answers self.old) }
         ensures left { LeavesNoMore (leaves self.old) (leaves self.new) }
-        ensures met { meets self.old self.new (result_err result) };
+        ensures met { meets self.old self.new (result_err result) }
+        ensures fits { is_sound self.old → begin < end → AreThere (answers self.old group).entry begin end → IfErr result (λ fault. is_misuse fault → ⊥) };
 
     /// The ids of the groups that the log has something of, rising (own).
     fn groups(&mut self) -> Result<Vec<u64>, Self::Fault>
@@ -78,7 +84,8 @@ pub trait ContentLog: Drop {
         ensures sound { is_sound self.old → OnOk result (is_sound self.new) }
         ensures kept { is_sound self.new → is_sound self.old × (answers self.new ≡ answers self.old) }
         ensures left { LeavesNoMore (leaves self.old) (leaves self.new) }
-        ensures met { meets self.old self.new (result_err result) };
+        ensures met { meets self.old self.new (result_err result) }
+        ensures fits { IfErr result (λ fault. is_misuse fault → ⊥) };
 
     /// Whether the log has something of a group (own).
     fn is_there(&mut self, group: u64) -> Result<bool, Self::Fault>
@@ -86,7 +93,8 @@ pub trait ContentLog: Drop {
         ensures sound { is_sound self.old → OnOk result (is_sound self.new) }
         ensures kept { is_sound self.new → is_sound self.old × (answers self.new ≡ answers self.old) }
         ensures left { LeavesNoMore (leaves self.old) (leaves self.new) }
-        ensures met { meets self.old self.new (result_err result) };
+        ensures met { meets self.old self.new (result_err result) }
+        ensures fits { IfErr result (λ fault. is_misuse fault → ⊥) };
 
     /// No call meets no fault.
     ghost meets_none: { (x : Self) → meets x x None };

@@ -154,6 +154,9 @@ impl ContentLog for PlainLog {
 
     ghost meets = { λ old new met. Unit {0} };
 
+    // It is for simulations: why it refuses isn't promised.
+    ghost is_misuse = { λ fault. ⊥ };
+
     ghost meets_none = { λ x. tt };
 
     ghost meets_later = { λ x y z met before after. tt };

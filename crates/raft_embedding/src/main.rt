@@ -4,6 +4,8 @@
 //! A row begins with the node. These are the rows; the last word of a call is its moment, in ticks:
 //!
 //! - `1 open`, `1 close`, `1 crash`: the node is opened on its files, and closed, or its machine stops;
+//! - `1 fuses 2`: its files refuse that changing call and each behind it; `1 notes`: the bytes of the files
+//!   are noted; `1 tears 3`: a crash leaves those, and three quarters of what was written since then;
 //! - `1 add 7`: it gets a group;
 //! - `1 initialize 7 2 0`, `1 elect 7 0`, `1 heartbeat 7 5`, `1 lost 7 2 5`, `1 propose 7 a x 40 5`,
 //!   `1 learner 7 3 c 41 5`, `1 snapshot 7 5`, `1 purge 7 3 5`: its calls;
@@ -21,6 +23,7 @@ mod house;
 mod node;
 mod rows;
 mod told;
+mod torn;
 
 use house::House;
 use raft_rows::run;

@@ -2,7 +2,7 @@
 
 use crate::counters::Counters;
 use raft_log_engine::{EngineFault, LogFiles, MemoryLog, NotClosed, NotOpened as LogNotOpened};
-use raft_log_files::Config;
+use raft_log_files::{Config, FileBytes};
 use raft_node::{Cause, Fault, Fed, Node, NotOpened, Opened, Outcome};
 use raft_store::{Store, StoreFault};
 use std::alloc::{AllocError, Global};
@@ -30,10 +30,12 @@ pub type Piece = Fed<Failure>;
 /// way to it.
 #[derive(Drop)]
 pub struct Home {
-    alloc: Global,
+    pub alloc: Global,
     id: u64,
     pub node: Option<CountersNode>,
-    files: Option<LogFiles>,
+    pub files: Option<LogFiles>,
+    /// The bytes of its files, as they were noted.
+    pub before: Vec<FileBytes>,
     coming: BTreeMap<u64, Vec<u8>>,
 }
 
@@ -71,6 +73,7 @@ impl Home {
             id,
             node: None,
             files: None,
+            before: Vec::new(alloc),
             coming: BTreeMap::new(alloc),
         }
     }

@@ -47,6 +47,26 @@ impl House {
         Some(self.feed(id, peer, stream.as_slice(), now, text))
     }
 
+    // What becomes of the node's files.
+    fn touch(&mut self, id: u64, words: &[&str], text: &mut String) -> Option<Told> {
+        let told = match *words {
+            ["notes"] => match self.home(id)?.note() {
+                Ok((files, len)) => write!(text, "{files} files, {len} bytes"),
+                Err(fault) => write!(text, "{fault}"),
+            },
+            ["tears", parts] => match self.home(id)?.tear(number(parts) as usize) {
+                Ok(word) => text.push_str(word),
+                Err(fault) => write!(text, "{fault}"),
+            },
+            ["fuses", call] => {
+                self.node(id)?.fuse(Some(number(call)));
+                text.push_str("set")
+            }
+            _ => return None,
+        };
+        Some(told)
+    }
+
     // What a row asks the node for.
     fn told(&mut self, alloc: Global, id: u64, words: &[&str], text: &mut String) -> Option<Told> {
         match *words {
@@ -56,6 +76,7 @@ impl House {
             ["takes", ref words @ ..] => self.take(alloc, id, words, text),
             ["loses", peer] => self.lose(id, number(peer), text),
             ["resets", peer] => self.reset(id, number(peer), text),
+            ["notes"] | ["tears" | "fuses", _] => self.touch(id, words, text),
             ["fails"] => Some(refused(&fail(self.node(id)?), text)),
             ["is" | "has" | "may" | "sees" | "knows" | "gets", ..] => {
                 look(self.node(id)?, words, text)

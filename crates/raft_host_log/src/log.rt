@@ -19,6 +19,7 @@ ghost use Rattle.raft_log_engine.specs.Reopened.{OpensInTail};
 ghost use Rattle.raft_log_engine.specs.Unopened.{IsOpeningFault};
 ghost use Rattle.raft_log_files.specs.declared.error.CorruptionFault.{CorruptionFault};
 ghost use Rattle.raft_log_files.specs.declared.error.Error.TheVariants.{Corruption};
+ghost use Rattle.raft_log_files.specs.declared.recovery.RecoveryMode.TheVariants.{TolerateTailCorruption};
 ghost use Rattle.raft_log_files.specs.Settings.{settings_fault, settings_of};
 ghost use Rattle.raft_log_host.specs.Mirror.{host_disk, host_meter};
 ghost use Rattle.raft_log_memtables.specs.Content.{Content};
@@ -29,7 +30,7 @@ ghost use Rattle.raft_log_recovery.specs.Scan.{directories_of};
 
 use raft_content_log::ContentLog;
 use raft_log_engine::{Engine, EngineFault, NotClosed, NotOpened};
-use raft_log_files::{Config, Error};
+use raft_log_files::{Config, Error, RecoveryMode};
 use raft_log_host::HostFileSystem;
 use raft_log_records::LogBatch;
 use std::alloc::{AllocError, Global};
@@ -72,24 +73,26 @@ impl Model for HostLog {
     ghost invariant = { λ l. IsLog host_disk l.engine l.settings l.has_failed };
 }
 
-/// A copy of the settings, with the main directory alone.
+/// A copy of the settings, with the main directory alone. A torn tail is tolerated, whatever they say:
+/// a crash may leave one.
 fn in_one_directory(settings: &Config) -> Result<Config, AllocError>
     ensures directories { IfOk result (λ config. directories_of (settings_of config) ≡ main_directory settings.now) }
-    ensures mode { IfOk result (λ config. config.recovery_mode ≡ settings.now.recovery_mode) }
+    ensures mode { IfOk result (λ config. config.recovery_mode ≡ TolerateTailCorruption) }
     ensures sizes { IfOk result (λ config. (config.target_file_size ≡ settings.now.target_file_size) × (config.format_version ≡ settings.now.format_version)) }
     ensures fault { IfOk result (λ config. settings_fault (settings_of config) ≡ settings_fault (settings_of settings.now)) }
     ensures once { IfOk result (λ config. (names : Names) (queue : LogQueue) → IsOnce names (directories_of (settings_of config)) queue) }
 {
     let mut config = settings.clone()?;
     config.spill_dir = None;
+    config.recovery_mode = RecoveryMode::TolerateTailCorruption;
     Ok(config)
 }
 
 impl HostLog {
     /// Opens the log with the files that are there, or makes its first one (own). What the files read
-    /// as is what it answers, and what a crash leaves. A fault in a file is cut away or refused, as
-    /// `recovery_mode` says. A refusal hands the files back: what an opening finds of them as they are
-    /// it might have found of those before.
+    /// as is what it answers, and what a crash leaves. Whatever mode the settings name, a torn tail is cut
+    /// away, and any other fault in a file refused. A refusal hands the files back: what an opening finds
+    /// of them as they are it might have found of those before.
     pub fn open(alloc: Global, files: HostFiles) -> Result<HostLog, NotOpened<HostFiles>>
         ensures sound { IfOk result (λ l. l.has_failed ≡ false) }
         ensures answers { IfOk result (λ l. IsFoundBy files.settings (host_disk files.files) (answers_on host_disk l.engine)) }
@@ -97,16 +100,16 @@ impl HostLog {
         ensures opens_in_tail { IfOk result (λ l. OpensInTail (main_directory l.settings) (host_disk l.engine.files) l.engine.pipes) }
         ensures settings { IfOk result (λ l. l.settings ≡ files.settings) }
         ensures set { IfOk result (λ l. AreSetAs (settings_of files.settings) l.engine.pipes) }
-        ensures holes { IfOk result (λ l. HasHolesIn files.settings.recovery_mode (host_disk l.engine.files) l.engine.pipes) }
+        ensures holes { IfOk result (λ l. HasHolesIn TolerateTailCorruption (host_disk l.engine.files) l.engine.pipes) }
         ensures refused { IfErr result (λ refused. refused.files.settings ≡ files.settings) }
-        ensures err { IfErr result (λ refused. IsLeftByOpening files.settings.recovery_mode (main_directory files.settings) (host_disk files.files) (host_disk refused.files.files)) }
+        ensures err { IfErr result (λ refused. IsLeftByOpening TolerateTailCorruption (main_directory files.settings) (host_disk files.files) (host_disk refused.files.files)) }
         ensures reads { IfErr result (λ refused. (content : Content (List ℕ)) → IsFoundBy files.settings (host_disk refused.files.files) content
             → IsFoundBy files.settings (host_disk files.files) content) }
         ensures corrupt { IfErr result (λ refused. (f : CorruptionFault) → refused.fault ≡ engine_fault.Log (Corruption f)
-            → (queue : LogQueue) × CantBeOpened files.settings.recovery_mode (main_directory files.settings) queue (host_disk files.files)) }
+            → (queue : LogQueue) × CantBeOpened TolerateTailCorruption (main_directory files.settings) queue (host_disk files.files)) }
         ensures later { MatchResult result (λ l. RefusesNoMore (is_bounded_in files.files.memory) (is_bounded_in l.engine.files.memory) (host_meter files.files) (host_meter l.engine.files))
             (λ refused. RefusesNoMore (is_bounded_in files.files.memory) (is_bounded_in refused.files.files.memory) (host_meter files.files) (host_meter refused.files.files)) }
-        ensures cause { IfErr result (λ refused. IsOpeningFault (settings_fault (settings_of files.settings)) files.settings.recovery_mode (main_directory files.settings)
+        ensures cause { IfErr result (λ refused. IsOpeningFault (settings_fault (settings_of files.settings)) TolerateTailCorruption (main_directory files.settings)
             (host_disk files.files) (host_disk refused.files.files) (is_bounded_in files.files.memory) (host_meter files.files) (host_meter refused.files.files) refused.fault) }
     {
         let HostFiles { settings, files } = files;
@@ -142,16 +145,16 @@ impl HostLog {
         ensures opens_in_tail { IfOk result (λ l. OpensInTail (main_directory l.settings) (host_disk l.engine.files) l.engine.pipes) }
         ensures settings { IfOk result (λ l. l.settings ≡ files.settings) }
         ensures set { IfOk result (λ l. AreSetAs (settings_of files.settings) l.engine.pipes) }
-        ensures holes { IfOk result (λ l. HasHolesIn files.settings.recovery_mode (host_disk l.engine.files) l.engine.pipes) }
+        ensures holes { IfOk result (λ l. HasHolesIn TolerateTailCorruption (host_disk l.engine.files) l.engine.pipes) }
         ensures refused { IfErr result (λ refused. refused.files.settings ≡ files.settings) }
-        ensures err { IfErr result (λ refused. IsLeftByOpening files.settings.recovery_mode (main_directory files.settings) (host_disk files.files) (host_disk refused.files.files)) }
+        ensures err { IfErr result (λ refused. IsLeftByOpening TolerateTailCorruption (main_directory files.settings) (host_disk files.files) (host_disk refused.files.files)) }
         ensures reads { IfErr result (λ refused. (content : Content (List ℕ)) → IsFoundBy files.settings (host_disk refused.files.files) content
             → IsFoundBy files.settings (host_disk files.files) content) }
         ensures corrupt { IfErr result (λ refused. (f : CorruptionFault) → refused.fault ≡ engine_fault.Log (Corruption f)
-            → (queue : LogQueue) × CantBeOpened files.settings.recovery_mode (main_directory files.settings) queue (host_disk files.files)) }
+            → (queue : LogQueue) × CantBeOpened TolerateTailCorruption (main_directory files.settings) queue (host_disk files.files)) }
         ensures later { MatchResult result (λ l. RefusesNoMore (is_bounded_in files.files.memory) (is_bounded_in l.engine.files.memory) (host_meter files.files) (host_meter l.engine.files))
             (λ refused. RefusesNoMore (is_bounded_in files.files.memory) (is_bounded_in refused.files.files.memory) (host_meter files.files) (host_meter refused.files.files)) }
-        ensures cause { IfErr result (λ refused. IsOpeningFault (settings_fault (settings_of files.settings)) files.settings.recovery_mode (main_directory files.settings)
+        ensures cause { IfErr result (λ refused. IsOpeningFault (settings_fault (settings_of files.settings)) TolerateTailCorruption (main_directory files.settings)
             (host_disk files.files) (host_disk refused.files.files) (is_bounded_in files.files.memory) (host_meter files.files) (host_meter refused.files.files) refused.fault) }
     {
         let HostFiles { settings, files } = files;
@@ -243,7 +246,7 @@ impl ContentLog for HostLog {
     ghost use Rattle.raft_log_host.specs.Mirror.{host_disk};
     ghost use Rattle.raft_log_engine.specs.Left.{answers_on};
     ghost use Rattle.raft_log_engine.specs.Log.{leaves_of_log};
-    ghost use Rattle.raft_log_engine.specs.Met.{Meets, meets_later, meets_none};
+    ghost use Rattle.raft_log_engine.specs.Met.{IsMisuse, Meets, meets_later, meets_none};
 
     ghost is_sound = { λ l. l.has_failed ≡ false };
 
@@ -251,11 +254,13 @@ impl ContentLog for HostLog {
 
     ghost leaves = { λ l content. leaves_of_log host_disk l content };
 
-    ghost meets = { λ old new met. Meets (λ f. is_bounded_in f.memory) host_meter old new met };
+    ghost meets = { λ old new met. Meets host_disk (λ f. is_bounded_in f.memory) host_meter old new met };
 
-    ghost meets_none = { λ x. meets_none (λ f. is_bounded_in f.memory) host_meter x };
+    ghost is_misuse = { λ fault. IsMisuse fault };
 
-    ghost meets_later = { λ x y z met first second. meets_later (λ f. is_bounded_in f.memory) host_meter x y z met first second };
+    ghost meets_none = { λ x. meets_none host_disk (λ f. is_bounded_in f.memory) host_meter x };
+
+    ghost meets_later = { λ x y z met first second. meets_later host_disk (λ f. is_bounded_in f.memory) host_meter x y z met first second };
 
     fn write(&mut self, batch: &mut LogBatch) -> Result<(), EngineFault> {
         if self.has_failed {

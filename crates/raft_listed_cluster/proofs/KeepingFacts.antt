@@ -51,6 +51,7 @@ module _ {N : Type 0} (rules : MachineRules) (acts : NodeActs N) (states : NodeS
             let kept = kept_in now.groups h in
             let (leads, headline, list) = kept_lists_are_the_groups rules ids told.stand.kept.node_ids h (told.stand.candidates h) told.plain (notes_of kept asked) (keeps.each h) choice among in
             (leads, headline, sym (same_list kept asked) ∙ list);
+        lends = λ n node there h s has. law.lends node h (told.stand.candidates h n) s (told.stand.may_be n node there h) has;
       }
 
   -- ---- before an event

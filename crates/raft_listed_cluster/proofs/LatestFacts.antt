@@ -12,7 +12,7 @@ use Rattle.raft_laws.specs.declared.world_event.WorldEvent.TheVariants as event
 use Rattle.raft_laws.specs.BallotLists.{AgreeBelow, with_value}
 use Rattle.raft_laws.specs.GroupRun.{At, Nowhere, Scene, after_scene, led_after, led_as, led_by, outcome_of, scene_of, stop_at}
 use Rattle.raft_laws.specs.GroupWorld.{Absent, Done, Down, GroupWorld, Led, NodeState, Outcome, Recorded, Refused, Skipped, Stopped, Up, is_stop, state_or}
-use Rattle.raft_laws.specs.NodeEvent.{Crashes, Halts, NodeEvent, outcome_at, state_after}
+use Rattle.raft_laws.specs.NodeEvent.{Crashes, Halts, outcome_at, state_after}
 use Rattle.raft_laws.specs.OneList.{AreNodeIds, IsGroupHistory}
 use Rattle.raft_laws.proofs.BallotAgreement.{agree_none, same_some}
 use Rattle.raft_laws.proofs.Committed.{same_front}
@@ -25,7 +25,7 @@ use Rattle.raft_headline.specs.ClusterEvent.{Recorded as PlainRecord}
 use Rattle.raft_headline.specs.Machines.{Replicas, new_replicas}
 use Rattle.raft_headline.specs.Replaying.{IsThere, StepsTo}
 use Rattle.raft_headline.specs.Seen.{Crashed, Halted, Own, Passed, Seen, seen_by}
-use Rattle.raft_headline.proofs.Headlines.{group_history, leads_there}
+use Rattle.raft_headline.proofs.Headlines.{group_history}
 use Rattle.raft_cluster_laws.specs.Acts.{EventLeads}
 use Rattle.raft_cluster_laws.specs.Kept.{Candidates}
 use Rattle.raft_cluster_laws.proofs.EventKept.{at_own, back, choice_before, chosen, goes, is_only, other_choice}

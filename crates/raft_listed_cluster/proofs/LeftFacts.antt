@@ -1,5 +1,5 @@
 -- What is left to be heard of a round, record by record.
-use Rattle.std.proofs.Common.{◌≡◌, ℕ, suc, not, Bool, true, false, cond, List, ◌∷◌, [], length, sym, ap, ◌∙◌, subst, arith}
+use Rattle.std.proofs.Common.{◌≡◌, ◌≤◌, ℕ, suc, not, Bool, true, false, cond, List, ◌∷◌, [], length, sym, subst, arith}
 use Rattle.std.specs.List.{AllByRecursion}
 use Rattle.raft_cluster_events.specs.declared.event.ClusterEvent.{ClusterEvent}
 use Rattle.raft_cluster_events.specs.declared.outcome.Recorded.{Recorded}
@@ -11,7 +11,8 @@ use Rattle.raft_cluster_lists.proofs.ReadyLemmas.{fewer_ready}
 use Rattle.raft_cluster.specs.Cluster.{events_of}
 use Rattle.raft_cluster.specs.Facts.{Sent, node_of}
 use Rattle.raft_listed_cluster.specs.Hearing.{IsHeardThen}
-use Rattle.raft_listed_cluster.specs.Round.{AreReadyFor, HearsNext, HearsRound, heard_of, is_crash}
+use Rattle.raft_cluster.specs.Round.{is_crash}
+use Rattle.raft_listed_cluster.specs.Round.{AreReadyFor, HearsNext, HearsRound, heard_of}
 
 all_fewer : (n : ℕ) (olds news : List KeptGroup) → ((e : ClusterEvent) → IsReadyFor e (suc n) olds → IsReadyFor e n news) → (rs : List Recorded)
     → AllByRecursion (λ (r : Recorded). IsReadyFor r.event (suc n) olds) rs → AllByRecursion (λ (r : Recorded). IsReadyFor r.event n news) rs
@@ -19,9 +20,9 @@ all_fewer n olds news on [] all = tt
 all_fewer n olds news on (r ∷ rs) all = (on r.event all.0, all_fewer n olds news on rs all.1)
 
 -- how many are still to be heard of
-count_left : (r : Recorded) (rs : List Recorded) (b : Bool) (n : ℕ) → is_crash r.event ≡ b → n ≡ length (heard_of (events_of (r ∷ rs)))
-    → n ≡ length (cond (not b) (r.event ∷ heard_of (events_of rs)) (heard_of (events_of rs)))
-count_left r rs b n is count = count ∙ ap (λ w. length (cond (not w) (r.event ∷ heard_of (events_of rs)) (heard_of (events_of rs)))) is
+count_left : (r : Recorded) (rs : List Recorded) (b : Bool) (n : ℕ) → is_crash r.event ≡ b → length (heard_of (events_of (r ∷ rs))) ≤ n
+    → length (cond (not b) (r.event ∷ heard_of (events_of rs)) (heard_of (events_of rs))) ≤ n
+count_left r rs b n is fewer = subst (λ w. length (cond (not w) (r.event ∷ heard_of (events_of rs)) (heard_of (events_of rs))) ≤ n) is fewer
 
 -- the next one has room
 pub ready_now : (r : Recorded) (rs : List Recorded) (bs : List Brought) (groups : List KeptGroup) → AreReadyFor (r ∷ rs) bs groups → IsReadyFor r.event 1 groups

@@ -15,3 +15,5 @@ pub mod NumberFacts
 pub mod RoundKeeping
 pub mod RoundHeard
 pub mod RoundRun
+pub mod TellingFacts
+pub mod ReadingFacts

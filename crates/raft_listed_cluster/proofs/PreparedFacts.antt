@@ -1,5 +1,5 @@
 -- What is prepared for the events of a round, one after another.
-use Rattle.std.proofs.Common.{◌≡◌, ◌⊎◌, ◌+◌, ◌<◌, inl, inr, ℕ, not, Bool, true, false, cond, List, [], ◌∷◌, ◌++◌, Option, Some, None, get_or, length, take, refl, sym, ap, ◌∙◌, subst, append-nil}
+use Rattle.std.proofs.Common.{◌≡◌, ◌⊎◌, ◌+◌, ◌<◌, inl, inr, ℕ, not, Bool, false, cond, List, [], ◌∷◌, ◌++◌, Option, Some, None, get_or, length, take, refl, sym, ap, ◌∙◌, subst}
 use Rattle.std.specs.Prelude.{Contains}
 use Rattle.std.specs.List.{AllZip}
 use Rattle.std.proofs.lemmas.List.Elements.{filter_more}
@@ -19,7 +19,8 @@ use Rattle.raft_cluster_lists.specs.Lists.{AreSame}
 use Rattle.raft_cluster_lists.proofs.PlaceLemmas.{keeps_same}
 use Rattle.raft_cluster.specs.Facts.{Sent}
 use Rattle.raft_listed_cluster.specs.Preparing.{ArePrepared, ArePreparedFor, IsPreparedSo}
-use Rattle.raft_listed_cluster.specs.Round.{heard_of, is_crash}
+use Rattle.raft_cluster.specs.Round.{is_crash}
+use Rattle.raft_listed_cluster.specs.Round.{heard_of}
 
 -- ---- groups, before the round
 

@@ -1,5 +1,5 @@
 -- What the events of a round leave as it is: the nodes that they aren't for, and frames that were sent.
-use Rattle.std.proofs.Common.{◌≡◌, ◌&&◌, ◌||◌, inl, inr, ℕ, eqb, Bool, true, false, not, List, [], ◌∷◌, ◌++◌, Option, Some, None, slice_get, refl, sym, ap, ◌∙◌, arith}
+use Rattle.std.proofs.Common.{◌≡◌, ◌||◌, inl, inr, ℕ, eqb, Bool, true, false, List, [], ◌∷◌, ◌++◌, Option, Some, None, slice_get, refl, sym, ap, ◌∙◌, arith}
 use Rattle.std.specs.List.{AllByRecursion, list_any}
 use Rattle.raft_cluster_conditions.specs.declared.reasons.ClusterRefusal.{ClusterRefusal}
 use Rattle.raft_cluster_events.specs.declared.event.ClusterEvent.{ClusterEvent}
@@ -8,12 +8,10 @@ use Rattle.raft_cluster_events.specs.declared.outcome.Recorded.{Recorded}
 use Rattle.raft_cluster_events.specs.Node.{NodeActs}
 use Rattle.raft_cluster.specs.Cluster.{Happens, HappensBy, Reaches, RunsTo, events_of, refusal_in}
 use Rattle.raft_cluster.specs.Facts.{Sent, node_at, node_in, node_of}
-use Rattle.raft_cluster.specs.Round.{AllButSpared, is_apart_from, is_for, is_round, is_that}
+use Rattle.raft_cluster.specs.Round.{is_for, is_round, is_that}
 use Rattle.raft_cluster.proofs.ListLemmas.{found_other, its_id}
 use Rattle.raft_cluster.proofs.RoundLemmas.{first_of_round}
 use Rattle.raft_cluster.proofs.TurnLemmas.{Grows, grows, same_frame}
-
--- ---- events that happen of a round are one
 
 none_of_fewer : (p : ClusterEvent → Bool) (e : ClusterEvent) (es : List ClusterEvent) → list_any p (e ∷ es) ≡ false → (p e ≡ false) × (list_any p es ≡ false)
 none_of_fewer p e es none = go (p e) refl none
@@ -21,9 +19,6 @@ none_of_fewer p e es none = go (p e) refl none
     go : (b : Bool) → p e ≡ b → (b || list_any p es) ≡ false → (p e ≡ false) × (list_any p es ≡ false)
     go true is h = absurd (cc)
     go false is h = (is, h)
-
-one_more : (p : ClusterEvent → Bool) (e : ClusterEvent) (es : List ClusterEvent) → p e ≡ false → list_any p es ≡ false → list_any p (e ∷ es) ≡ false
-one_more p e es this others = ap (λ b. b || list_any p es) this ∙ others
 
 -- the event is for a node, but not for this one
 pub record IsElsewhere (sent : Sent) (n : ℕ) (event : ClusterEvent) : Type 0 where
@@ -41,28 +36,9 @@ all_elsewhere sent n (e ∷ es) round none =
       all_elsewhere sent n es f.round others,
     )
 
-round_of : (sent : Sent) (e : ClusterEvent) (es : List ClusterEvent) (id : ℕ) → node_of sent e ≡ Some id → list_any (is_for sent id) es ≡ false → is_round sent es ≡ true → is_round sent (e ∷ es) ≡ true
-round_of sent e es id named none round =
-    ap (λ w. is_apart_from sent w es && is_round sent es) named ∙ ap (λ b. not b && is_round sent es) none ∙ round
+-- ---- nodes
 
 module _ {N : Type 0} (acts : NodeActs N) where
-  still_none : (p : ClusterEvent → Bool) (nodes : List N) (sent : Sent) (asked ran : List ClusterEvent) → AllButSpared acts nodes sent asked ran → list_any p asked ≡ false → list_any p ran ≡ false
-  still_none p nodes sent [] ran all none = ap (list_any p) all
-  still_none p nodes sent (e ∷ es) ran (inl (rest, is, more)) none =
-      let (this, others) = none_of_fewer p e es none in
-      ap (list_any p) is ∙ one_more p e rest this (still_none p nodes sent es rest more others)
-  still_none p nodes sent (e ∷ es) ran (inr (spared, more)) none = still_none p nodes sent es ran more (none_of_fewer p e es none).1
-
-  -- without the crashes that nodes are spared a round is still one
-  pub round_left : (nodes : List N) (sent : Sent) (asked ran : List ClusterEvent) → AllButSpared acts nodes sent asked ran → is_round sent asked ≡ true → is_round sent ran ≡ true
-  round_left nodes sent [] ran all round = ap (is_round sent) all
-  round_left nodes sent (e ∷ es) ran (inl (rest, is, more)) round =
-      let f = first_of_round sent e es round in
-      ap (is_round sent) is ∙ round_of sent e rest f.id f.node (still_none (is_for sent f.id) nodes sent es rest more f.alone) (round_left nodes sent es rest more f.round)
-  round_left nodes sent (e ∷ es) ran (inr (spared, more)) round = round_left nodes sent es ran more (first_of_round sent e es round).round
-
-  -- ---- nodes
-
   apart : (n m id : ℕ) → id ≡ m → eqb m n ≡ false → eqb n id ≡ false
   apart n m id is other = grind arith
 

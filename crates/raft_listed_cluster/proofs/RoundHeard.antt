@@ -1,10 +1,9 @@
 -- A whole round, heard record by record, keeps the lists.
-use Rattle.std.proofs.Common.{◌≡◌, ℕ, suc, eqb, Bool, true, false, List, [], ◌∷◌, ◌++◌, Option, Some, None, length, refl, sym, ap, ◌∙◌, subst, arith, append_assoc, append-nil}
+use Rattle.std.proofs.Common.{◌≡◌, ℕ, suc, eqb, Bool, true, false, List, [], ◌∷◌, ◌++◌, Option, Some, None, length, refl, sym, ap, ◌∙◌, subst, append_assoc, append-nil}
 use Rattle.std.specs.List.{AllByRecursion}
 use Rattle.std.proofs.lemmas.Bool.{eqb-false, ne_eqb}
 use Rattle.raft_laws.proofs.BallotAgreement.{same_some}
 use Rattle.raft_machines.specs.Machine.{MachineRules}
-use Rattle.raft_list_facts.specs.declared.leading.Leading.{Leading}
 use Rattle.raft_cluster_events.specs.declared.event.ClusterEvent.{ClusterEvent}
 use Rattle.raft_cluster_events.specs.declared.event.ClusterEvent.TheVariants as event
 use Rattle.raft_cluster_events.specs.declared.outcome.EventOutcome.{EventOutcome}
@@ -17,13 +16,13 @@ use Rattle.raft_cluster_lists.specs.declared.kept.KeptGroup.{KeptGroup}
 use Rattle.raft_cluster_lists.proofs.ReadyLemmas.{keep_less}
 use Rattle.raft_cluster.specs.Cluster.{RunsTo, events_of}
 use Rattle.raft_cluster.specs.Facts.{Sent, node_in, node_of}
-use Rattle.raft_cluster.specs.Round.{is_round}
+use Rattle.raft_cluster.specs.Round.{is_crash, is_round}
 use Rattle.raft_cluster.proofs.RoundLemmas.{IsFirst, first_of_round}
 use Rattle.raft_cluster.proofs.TurnLemmas.{Grows, grows, same_frame}
 use Rattle.raft_listed_cluster.specs.Hearing.{IsHeardBy, IsHeardThen, Tells}
 use Rattle.raft_listed_cluster.specs.Keeping.{KeepsLists}
 use Rattle.raft_listed_cluster.specs.Listed.{OnlyGrow, lists_of}
-use Rattle.raft_listed_cluster.specs.Round.{HearsNext, HearsRound, is_crash}
+use Rattle.raft_listed_cluster.specs.Round.{HearsNext, HearsRound}
 use Rattle.raft_listed_cluster.proofs.ListFacts.{grow_on, same_grow}
 use Rattle.raft_listed_cluster.proofs.RoundFacts.{IsElsewhere, all_elsewhere, all_grow, grows_on, others_leave}
 use Rattle.raft_listed_cluster.proofs.RoundKeeping.{IsPending, still_pending, then_grow, then_keeps}

@@ -1,17 +1,13 @@
 -- Behind a round the lists hear its events in order: each is heard as behind its own step.
-use Rattle.std.proofs.Common.{◌≡◌, ◌⊎◌, ◌≤◌, inl, inr, ℕ, suc, eqb, Bool, true, false, List, [], ◌∷◌, ◌++◌, Option, Some, None, drop, length, refl, sym, ap, ◌∙◌, subst, arith}
+use Rattle.std.proofs.Common.{◌≡◌, ℕ, suc, eqb, true, false, List, [], ◌∷◌, ◌++◌, Option, Some, None, drop, length, refl, sym, ap, ◌∙◌, subst, arith}
 use Rattle.std.proofs.lemmas.Bool.{eq-eqb}
 use Rattle.raft_values.specs.declared.vote.Vote.{Vote}
-use Rattle.raft_group_step.specs.Values.{Entry, EntryPayload}
-use Rattle.raft_group_step.specs.GroupEvent.{GroupCall}
 use Rattle.raft_laws.proofs.BallotAgreement.{same_some}
 use Rattle.raft_machines.specs.Machine.{MachineRules}
 use Rattle.raft_sent_frames.specs.Frames.{first_accepted}
 use Rattle.raft_list_facts.specs.declared.leading.Leading.{Leading}
-use Rattle.raft_list_reports.specs.Calls.{IsInvalid, IsWrittenBy, payload_of}
-use Rattle.raft_group_lists.specs.Notes.{Notes, accounts_of, membership_in}
+use Rattle.raft_group_lists.specs.Notes.{accounts_of}
 use Rattle.raft_cluster_events.specs.declared.event.ClusterEvent.{ClusterEvent}
-use Rattle.raft_cluster_events.specs.declared.event.ClusterEvent.TheVariants as event
 use Rattle.raft_cluster_events.specs.declared.outcome.EventOutcome.{EventOutcome}
 use Rattle.raft_cluster_events.specs.declared.outcome.Recorded.{Recorded}
 use Rattle.raft_cluster_events.specs.Node.{NodeActs}
@@ -19,7 +15,6 @@ use Rattle.raft_cluster_events.specs.States.{NodeStates}
 use Rattle.raft_node_laws.specs.Law.{KeepsLaw}
 use Rattle.raft_cluster_lists.specs.declared.brought.Brought.{Brought}
 use Rattle.raft_cluster_lists.specs.declared.kept.KeptGroup.{KeptGroup}
-use Rattle.raft_cluster_lists.specs.Brought.{Brings}
 use Rattle.raft_cluster_lists.specs.Groups.{BringsTo, IsReadyFor, kept_in}
 use Rattle.raft_cluster_lists.specs.Hearing.{group_of}
 use Rattle.raft_cluster_lists.proofs.ReadyLemmas.{fewer_ready}

@@ -1,16 +1,14 @@
 -- A round that ran: what is heard of it, record by record, keeps the lists.
-use Rattle.std.proofs.Common.{◌≡◌, ◌⊎◌, ◌-◌, ◌≤◌, inl, inr, ℕ, not, Bool, true, false, cond, List, [], ◌∷◌, ◌++◌, Option, Some, None, drop, length, take, refl, sym, ap, ◌∙◌, subst, arith, length-append, ⊎_elim}
+use Rattle.std.proofs.Common.{◌≡◌, ◌⊎◌, ◌-◌, ◌≤◌, inl, inr, ℕ, zero, suc, not, Bool, true, false, cond, List, [], ◌∷◌, ◌++◌, Option, Some, None, drop, length, take, refl, sym, ap, ◌∙◌, subst, arith, length-append, ⊎_elim}
 use Rattle.std.specs.List.{AllByRecursion, AllZip}
 use Rattle.std.proofs.Math.Seq.{drop-append_seam, take-length}
-use Rattle.std.proofs.lemmas.List.{length-map}
-use Rattle.std.proofs.lemmas.Slice.Zip.{AllZip-long}
+use Rattle.std.proofs.lemmas.List.{length-map, length-take}
 use Rattle.raft_laws.proofs.BallotAgreement.{same_some}
 use Rattle.raft_machines.specs.Machine.{MachineRules}
 use Rattle.raft_sent_frames.specs.Frames.{frames_of}
 use Rattle.raft_list_facts.specs.declared.leading.Leading.{Leading}
 use Rattle.raft_cluster_events.specs.declared.event.ClusterEvent.{ClusterEvent}
 use Rattle.raft_cluster_events.specs.declared.event.ClusterEvent.TheVariants as event
-use Rattle.raft_cluster_events.specs.declared.outcome.CrashRefusal.TheVariants.{Memory}
 use Rattle.raft_cluster_events.specs.declared.outcome.Recorded.{Recorded}
 use Rattle.raft_cluster_events.specs.Node.{NodeActs}
 use Rattle.raft_cluster_events.specs.States.{NodeStates}
@@ -20,22 +18,22 @@ use Rattle.raft_cluster_lists.specs.declared.kept.KeptGroup.{KeptGroup}
 use Rattle.raft_cluster_lists.specs.Groups.{IsReadyFor, IsSameGroup, KeepsOn, entries_of, kept_in}
 use Rattle.raft_cluster_lists.specs.Hearing.{group_of}
 use Rattle.raft_cluster_lists.proofs.ReadyLemmas.{fewer_ready}
-use Rattle.raft_cluster.specs.Cluster.{ClusterValue, IsRefusedFor, events_of}
+use Rattle.raft_cluster.specs.Cluster.{ClusterValue, events_of}
 use Rattle.raft_cluster.specs.Facts.{Sent, node_at, node_of}
 use Rattle.raft_cluster.specs.Joined.{ids_of}
-use Rattle.raft_cluster.specs.Round.{AllButSpared, Rounds, is_round}
+use Rattle.raft_cluster.specs.Round.{Rounds, is_crash, is_round}
 use Rattle.raft_cluster.proofs.PlainLemmas.{first_set_up}
+use Rattle.raft_cluster.proofs.CrashLemmas.{front_round}
 use Rattle.raft_cluster.proofs.RoundLemmas.{IsFirst, first_of_round}
 use Rattle.raft_listed_cluster.specs.Hearing.{Tells}
 use Rattle.raft_listed_cluster.specs.Keeping.{KeepsLists}
 use Rattle.raft_listed_cluster.specs.Listed.{lists_of}
 use Rattle.raft_listed_cluster.specs.Preparing.{ArePrepared, ArePreparedFor, IsPreparedSo}
-use Rattle.raft_listed_cluster.specs.Round.{AreReadyFor, HearsRound, heard_of, is_crash}
+use Rattle.raft_listed_cluster.specs.Round.{AreReadyFor, HearsRound, heard_of}
 use Rattle.raft_listed_cluster.proofs.GroupFacts.{begun_entries, begun_on, same_entries, same_on}
 use Rattle.raft_listed_cluster.proofs.KeepingFacts.{IsKept}
 use Rattle.raft_listed_cluster.proofs.ListFacts.{grow_on, same_grow}
 use Rattle.raft_listed_cluster.proofs.PreparedFacts.{IsOneBegun}
-use Rattle.raft_listed_cluster.proofs.RoundFacts.{round_left}
 use Rattle.raft_listed_cluster.proofs.RoundHeard.{ArePending, NextPending, round_keeps}
 use Rattle.raft_listed_cluster.proofs.RoundKeeping.{IsPending, tells_own}
 
@@ -67,28 +65,31 @@ module _ {N : Type 0} (rules : MachineRules) (acts : NodeActs N) (states : NodeS
 
 -- ---- the events of a round that happened
 
-module _ {N : Type 0} (acts : NodeActs N) (nodes : List N) (sent : Sent) where
-  spared_crash : (e : ClusterEvent) → IsRefusedFor acts nodes sent e Memory → is_crash e ≡ true
-  spared_crash (event.AddGroup m g) spared = absurd spared.refuses
-  spared_crash (event.Ask m g call now) spared = absurd spared.refuses
-  spared_crash (event.Deliver g number cuts now) spared = absurd spared.refuses
-  spared_crash (event.ResetPeer m peer) spared = absurd spared.refuses
-  spared_crash (event.Clean m) spared = absurd spared.refuses
-  spared_crash (event.Fuse m first_refused) spared = absurd spared.refuses
-  spared_crash (event.Reopen m workers) spared = absurd spared.refuses
-  spared_crash (event.Crash m choice) spared = refl
+-- each of these has one beside it, and there may be more of those
+abbrev pub AllFront : {A B : Type 0} → (A → B → Type 0) → List A → List B → Type 0
+AllFront R [] bs = Unit {0}
+AllFront R (x ∷ xs) [] = ⊥
+AllFront R (x ∷ xs) (b ∷ bs) = R x b × AllFront R xs bs
 
-  -- alone a crash that its node is spared has no record
-  pub heard_ran : (asked ran : List ClusterEvent) → AllButSpared acts nodes sent asked ran → heard_of ran ≡ heard_of asked
-  heard_ran [] ran all = ap heard_of all
-  heard_ran (e ∷ es) ran (inl (rest, is, more)) = ap heard_of is ∙ ap (λ l. cond (not (is_crash e)) (e ∷ l) l) (heard_ran es rest more)
-  heard_ran (e ∷ es) ran (inr (spared, more)) =
-      heard_ran es ran more ∙ sym (ap (λ b. cond (not b) (e ∷ heard_of es) (heard_of es)) (spared_crash e spared))
+few_beside : {A B : Type 0} (R : A → B → Type 0) (xs : List A) (bs : List B) → AllFront R xs bs → length xs ≤ length bs
+few_beside R [] bs all = omega arith
+few_beside R (x ∷ xs) [] all = absurd all
+few_beside R (x ∷ xs) (b ∷ bs) all = let fewer = few_beside R xs bs all.1 in omega arith
 
-  pub few_ran : (asked ran : List ClusterEvent) → AllButSpared acts nodes sent asked ran → length ran ≤ length asked
-  few_ran [] ran all = omega (arith, ap length all)
-  few_ran (e ∷ es) ran (inl (rest, is, more)) = let fewer = few_ran es rest more in omega (arith, ap length is)
-  few_ran (e ∷ es) ran (inr (spared, more)) = let fewer = few_ran es ran more in omega arith
+-- what was prepared for all that were asked for is so for those in front
+front_prepared : (R : ClusterEvent → Brought → Type 0) (n : ℕ) (es : List ClusterEvent) (bs : List Brought) → AllZip R (heard_of es) bs → AllFront R (heard_of (take n es)) bs
+front_prepared R zero es bs all = tt
+front_prepared R (suc n) [] bs all = tt
+front_prepared R (suc n) (e ∷ es) bs all = go (front_prepared R n es) (is_crash e) bs all
+  where
+    go : ((left : List Brought) → AllZip R (heard_of es) left → AllFront R (heard_of (take n es)) left) → (b : Bool) (bs : List Brought)
+        → AllZip R (cond (not b) (e ∷ heard_of es) (heard_of es)) bs → AllFront R (cond (not b) (e ∷ heard_of (take n es)) (heard_of (take n es))) bs
+    go rest true bs all = rest bs all
+    go rest false [] all = absurd all
+    go rest false (b ∷ bs) all = (all.0, rest bs all.1)
+
+abbrev pub AreInFront : {N : Type 0} → NodeActs N → List N → Sent → ℕ → List KeptGroup → List ClusterEvent → List Brought → Type 0
+AreInFront acts nodes sent n groups events bs = AllFront (IsPreparedSo acts nodes sent n groups) (heard_of events) bs
 
 -- a crash needs no room
 crash_ready : (e : ClusterEvent) (n : ℕ) (groups : List KeptGroup) → is_crash e ≡ true → IsReadyFor e n groups
@@ -102,22 +103,22 @@ crash_ready (event.Reopen m workers) n groups is = absurd (cc)
 crash_ready (event.Crash m choice) n groups is = record { own = λ h of_group. absurd (let no : None ≡ Some h = of_group in cc); each = λ opens. absurd opens }
 
 module _ {N : Type 0} (acts : NodeActs N) (nodes : List N) (sent : Sent) (groups : List KeptGroup) (n more : ℕ) (less : n ≤ more) where
-  each_ready : (rs : List Recorded) (bs : List Brought) → ArePrepared acts nodes sent more groups (events_of rs) bs → AllByRecursion (λ (r : Recorded). IsReadyFor r.event n groups) rs
+  each_ready : (rs : List Recorded) (bs : List Brought) → AreInFront acts nodes sent more groups (events_of rs) bs → AllByRecursion (λ (r : Recorded). IsReadyFor r.event n groups) rs
   each_ready [] bs all = tt
   each_ready (r ∷ rs) bs all = go (each_ready rs) (is_crash r.event) refl bs all
     where
-      go : ((left : List Brought) → ArePrepared acts nodes sent more groups (events_of rs) left → AllByRecursion (λ (r : Recorded). IsReadyFor r.event n groups) rs) → (b : Bool) → is_crash r.event ≡ b → (bs : List Brought)
-          → AllZip (IsPreparedSo acts nodes sent more groups) (cond (not b) (r.event ∷ heard_of (events_of rs)) (heard_of (events_of rs))) bs
+      go : ((left : List Brought) → AreInFront acts nodes sent more groups (events_of rs) left → AllByRecursion (λ (r : Recorded). IsReadyFor r.event n groups) rs) → (b : Bool) → is_crash r.event ≡ b → (bs : List Brought)
+          → AllFront (IsPreparedSo acts nodes sent more groups) (cond (not b) (r.event ∷ heard_of (events_of rs)) (heard_of (events_of rs))) bs
           → IsReadyFor r.event n groups × AllByRecursion (λ (r : Recorded). IsReadyFor r.event n groups) rs
       go rest true is bs all = (crash_ready r.event n groups is, rest bs all)
       go rest false is [] all = absurd all
       go rest false is (b ∷ bs) all = (fewer_ready r.event n more groups less all.0.ready, rest bs all.1)
 
 pub are_ready : {N : Type 0} (acts : NodeActs N) (nodes : List N) (sent : Sent) (groups : List KeptGroup) (more : ℕ) (rs : List Recorded) (bs : List Brought) → length rs ≤ more
-    → ArePrepared acts nodes sent more groups (events_of rs) bs → AreReadyFor rs bs groups
+    → AreInFront acts nodes sent more groups (events_of rs) bs → AreReadyFor rs bs groups
 are_ready acts nodes sent groups more rs bs less all = record {
   each = each_ready acts nodes sent groups (length rs) more less rs bs all;
-  brought = AllZip-long (IsPreparedSo acts nodes sent more groups) (heard_of (events_of rs)) bs all;
+  brought = few_beside (IsPreparedSo acts nodes sent more groups) (heard_of (events_of rs)) bs all;
 }
 
 module _ {N : Type 0} (rules : MachineRules) (acts : NodeActs N) (states : NodeStates N) (law : KeepsLaw rules acts states)
@@ -135,15 +136,15 @@ module _ {N : Type 0} (rules : MachineRules) (acts : NodeActs N) (states : NodeS
         brings = so.brings;
       }
 
-  pub are_pending : (rs : List Recorded) (bs : List Brought) → is_round sent (events_of rs) ≡ true → ArePrepared acts nodes sent more groups (events_of rs) bs → ArePending rules acts states law sent nodes groups n rs bs
+  pub are_pending : (rs : List Recorded) (bs : List Brought) → is_round sent (events_of rs) ≡ true → AreInFront acts nodes sent more groups (events_of rs) bs → ArePending rules acts states law sent nodes groups n rs bs
   are_pending [] bs round all = tt
   are_pending (r ∷ rs) bs round all = go (λ left others. are_pending rs left f.round others) (is_crash r.event) bs all
     where
       f : IsFirst sent r.event (events_of rs)
       f = first_of_round sent r.event (events_of rs) round
 
-      go : ((left : List Brought) → ArePrepared acts nodes sent more groups (events_of rs) left → ArePending rules acts states law sent nodes groups n rs left) → (b : Bool) (bs : List Brought)
-          → AllZip (IsPreparedSo acts nodes sent more groups) (cond (not b) (r.event ∷ heard_of (events_of rs)) (heard_of (events_of rs))) bs
+      go : ((left : List Brought) → AreInFront acts nodes sent more groups (events_of rs) left → ArePending rules acts states law sent nodes groups n rs left) → (b : Bool) (bs : List Brought)
+          → AllFront (IsPreparedSo acts nodes sent more groups) (cond (not b) (r.event ∷ heard_of (events_of rs)) (heard_of (events_of rs))) bs
           → NextPending rules acts states law sent nodes groups n b r bs (λ left. ArePending rules acts states law sent nodes groups n rs left)
       go rest true bs all = rest bs all
       go rest false [] all = all
@@ -164,16 +165,16 @@ module _ {N : Type 0} (acts : NodeActs N) (old new : ClusterValue N) (asked : Li
   records = rounds.runs.records
 
   -- what was prepared for all that were asked for is so for those that happened
-  ran_prepared : ArePrepared acts old.nodes (frames_of old.sent) (length asked) olds (events_of records) bs
+  ran_prepared : AreInFront acts old.nodes (frames_of old.sent) (length asked) olds (events_of records) bs
   ran_prepared =
-      let same : heard_of (events_of records) ≡ heard_of asked = ap heard_of rounds.runs.events ∙ heard_ran acts old.nodes (frames_of old.sent) asked rounds.ran rounds.spared in
-      subst (λ es. AllZip (IsPreparedSo acts old.nodes (frames_of old.sent) (length asked) olds) es bs) (sym same) prepared
+      let R : ClusterEvent → Brought → Type 0 = IsPreparedSo acts old.nodes (frames_of old.sent) (length asked) olds in
+      subst (λ es. AllFront R (heard_of es) bs) (sym rounds.runs.events) (front_prepared R number asked bs prepared)
 
   few_records : length records ≤ length asked
   few_records =
-      let few = few_ran acts old.nodes (frames_of old.sent) asked rounds.ran rounds.spared in
+      let few = length-take number asked in
       let count : length records ≡ length (events_of records) = sym (length-map records (λ (r : Recorded). r.event)) in
-      omega (arith, count, ap length rounds.runs.events)
+      omega (arith, count, few, ap length rounds.runs.events)
 
   pub ran_ready : AreReadyFor records bs olds
   ran_ready = are_ready acts old.nodes (frames_of old.sent) olds (length asked) records bs few_records ran_prepared
@@ -184,7 +185,7 @@ module _ {N : Type 0} (acts : NodeActs N) (old new : ClusterValue N) (asked : Li
     round_is_kept groups news round on hears keeps =
         let first = frames_of old.sent in
         let before = round_prepared rules acts states old.nodes first old.history asked groups olds on keeps in
-        let one : is_round first (events_of records) ≡ true = ap (is_round first) rounds.runs.events ∙ round_left acts old.nodes first asked rounds.ran rounds.spared round in
+        let one : is_round first (events_of records) ≡ true = ap (is_round first) rounds.runs.events ∙ front_round first number asked round in
         let pending = are_pending rules acts states law old.nodes first old.history olds before (length records) (length asked) few_records records bs one ran_prepared in
         let kept = round_keeps rules acts states law first new.nodes (frames_of new.sent) records bs old.nodes first old.history olds news (λ group k frame e. e) one rounds.runs.runs pending hears before in
         let K : List Recorded → Type 0 = λ h. KeepsLists rules acts states new.nodes (frames_of new.sent) h news in

@@ -4,3 +4,4 @@ pub mod Hearing
 pub mod Round
 pub mod Preparing
 pub mod Keeping
+pub mod Reading

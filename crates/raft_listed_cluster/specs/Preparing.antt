@@ -1,6 +1,6 @@
 -- What is known of events before which memory was found for all that they may bring to the lists.
-use Rattle.std.specs.Prelude.{◌≡◌, ◌⊎◌, ℕ, not, List, Option, Contains}
-use Rattle.std.specs.List.{AllZip, filter}
+use Rattle.std.specs.Prelude.{◌⊎◌, ℕ, List, Option, Contains}
+use Rattle.std.specs.List.{AllZip}
 use Rattle.raft_list_facts.specs.declared.leading.Leading.{Leading}
 use Rattle.raft_cluster_events.specs.declared.event.ClusterEvent.{ClusterEvent}
 use Rattle.raft_cluster_events.specs.Node.{NodeActs}

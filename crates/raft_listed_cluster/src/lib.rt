@@ -4,9 +4,11 @@
 mod hearing;
 mod listed;
 mod numbers;
+mod reading;
 mod round;
 
 pub use listed::ListedCluster;
 pub use raft_cluster::{
-    ClusterEvent, ClusterNode, ClusterRefusal, CrashChoice, EventOutcome, Recorded, RoundRefusal,
+    ClusterEvent, ClusterNode, ClusterRefusal, CrashChoice, EventOutcome, FileImage, Recorded,
+    RoundRefusal,
 };

@@ -186,12 +186,12 @@ where
     N::Machine: Send,
     N::Settings: Send,
 {
-    /// Runs the events of a round, each for another node, at once, and says how many happened (own):
-    /// all but crashes for which their nodes lack memory. What comes of it is what `run` gives on these
-    /// events in their order: outcomes, numbers of frames, nodes, history, and the list of each group,
-    /// which only grows. The lists hear of the round once it is over; memory for that is found before
-    /// it. An `Err` changes nothing: C8 where two events are for one node, or a frame wasn't sent before
-    /// the round, else C10.
+    /// Runs the events of a round, each for another node, at once, and says how many happened (own): the
+    /// round ends before the first crash for which its node lacks memory, as `run` does. What comes of it
+    /// is what `run` gives on these events in their order: outcomes, numbers of frames, nodes, history,
+    /// and the list of each group, which only grows. The lists hear of the round once it is over; memory
+    /// for that is found before it. An `Err` changes nothing: C8 where two events are for one node, or a
+    /// frame wasn't sent before the round, else C10.
     pub fn run_round<R: Threads + Sync>(
         &mut self,
         rt: &R,

@@ -2,7 +2,8 @@
 ghost use Rattle.std.specs.Prelude.{◌≡◌, length, IfOk, OnOk};
 ghost use Rattle.raft_sent_frames.specs.Frames.{frames_of};
 ghost use Rattle.raft_cluster_lists.specs.Groups.{IsPreparedFor, KeepReady};
-ghost use Rattle.raft_listed_cluster.specs.Round.{AreReadyFor, HearsRound, is_crash};
+ghost use Rattle.raft_cluster.specs.Round.{is_crash};
+ghost use Rattle.raft_listed_cluster.specs.Round.{AreReadyFor, HearsRound};
 ghost use Rattle.raft_listed_cluster.specs.Preparing.{ArePrepared, ArePreparedFor, IsPreparedSo};
 
 use crate::hearing::{hear_behind, leading_at};
@@ -11,7 +12,7 @@ use raft_cluster_events::{ClusterEvent, ClusterNode, Recorded};
 use raft_cluster_lists::{Brought, ClusterLists, group_of};
 use std::alloc::{AllocError, Global};
 
-// Whether an event is a crash: it brings no list anything, and may have no record.
+// Whether an event is a crash: it brings no list anything.
 fn is_crash(event: &ClusterEvent) -> bool
     ensures { result ≡ is_crash event.now }
 {
@@ -55,7 +56,7 @@ pub fn prepare_round<N: ClusterNode>(
     Ok(broughts)
 }
 
-/// The lists go on with the events of a round that is over, in their order; behind it the cluster is
+/// The lists go on with the events of a round that happened, in their order; behind it the cluster is
 /// this. Of each event but the crashes there is what it brings, and room for it, so it can't fail.
 pub fn hear_round<N: ClusterNode>(
     cluster: &Cluster<N>,

@@ -8,6 +8,7 @@ pub mod Chunks
 pub mod Gone
 pub mod Stood
 pub mod Calls
+pub mod Caused
 pub mod Living
 mod Counting
 pub mod Judged

@@ -18,6 +18,7 @@ record_fault (record_error.Corruption fault) = Corruption (Record fault)
 -- of marks
 abbrev pub mark_fault : MarkError → Error
 mark_fault (mark_error.Record error) = record_fault error
+mark_fault mark_error.EmptyKey = EntryNotFound
 mark_fault mark_error.PastGreatestIndex = EntryNotFound
 
 -- of entries

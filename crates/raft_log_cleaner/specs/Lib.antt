@@ -1,4 +1,5 @@
 pub mod Fault
+pub mod Caused
 pub mod Pipes
 pub mod Cleaning
 pub mod Copies

@@ -1,8 +1,9 @@
 //! Entries and keys of a group that stand in append files, written to the rewrite queue.
 
-ghost use Rattle.std.specs.Prelude.{◌≡◌, ◌-◌, ◌^◌, ◌<◌, ◌≤◌, ◌⊎◌, ℕ, map, Contains, None, true, false, IfOk, IfSome, IsSome, IsTrue};
+ghost use Rattle.std.specs.Prelude.{◌≡◌, ◌-◌, ◌^◌, ◌<◌, ◌≤◌, ◌⊎◌, ℕ, map, Contains, None, true, false, IfErr, IfOk, IfSome, IsSome, IsTrue};
 ghost use Rattle.raft_log_blocks.specs.Blocks.{HasBlock};
 ghost use Rattle.raft_log_blocks.specs.Placed.{bytes_on};
+ghost use Rattle.raft_log_cleaner.specs.Caused.{IsCleaningFault};
 ghost use Rattle.raft_log_cleaner.specs.Cleaning.{GoesOn, IsCleaningSome};
 ghost use Rattle.raft_log_cleaner.specs.Copies.{AreCopies};
 ghost use Rattle.raft_log_disk.specs.Cause.{RefusesNoMore};
@@ -41,7 +42,8 @@ fn copies_of<F: FileSystem>(
 ) -> Result<Vec<Vec<u8>>, Error>
     requires pipes { ArePipes pipes.now (F.disk files.now) }
     requires blocks { (place : EntryIndex) → Contains places.now place → HasBlock (F.disk files.now) pipes.now place }
-    ensures { IfOk result (λ copies. payloads copies.items ≡ map (bytes_on (F.disk files.now) pipes.now) places.now) }
+    ensures copied { IfOk result (λ copies. payloads copies.items ≡ map (bytes_on (F.disk files.now) pipes.now) places.now) }
+    ensures cause { IfErr result (λ e. IsCleaningFault (F.meter files.now) (F.meter files.now) e) }
 {
     let mut copies = Vec::new(alloc);
     for place in places {
@@ -65,7 +67,8 @@ pub fn copies<F: FileSystem>(
     requires blocks { (index : ℕ) (e : EntryIndex) → (content_in tables.now group).entry index ≡ Some e → HasBlock (F.disk files.now) pipes.now e }
     requires there { (content_in tables.now group).there ≡ true }
     requires some { begin < end }
-    ensures { IfOk result (λ copies. AreCopies (bytes_on (F.disk files.now) pipes.now) (content_in tables.now group).entry begin end (payloads copies.items)) }
+    ensures copied { IfOk result (λ copies. AreCopies (bytes_on (F.disk files.now) pipes.now) (content_in tables.now group).entry begin end (payloads copies.items)) }
+    ensures cause { IfErr result (λ e. IsCleaningFault (F.meter files.now) (F.meter files.now) e) }
 {
     let size = Some(MOST_BATCH_BYTES as u64);
     let places = match tables.fetch_entries_to(group, begin, end, size) {
@@ -134,6 +137,7 @@ fn rewrite_chunk<F: FileSystem>(
     requires below { (i : ℕ) → i < range.0 → (traces_in log.old.traces group).entry_file i ≡ None }
     requires above { (i : ℕ) → range.0 ≤ i → i < (traces_in log.old.traces group).next → IsSome ((traces_in log.old.traces group).entry_file i) }
     ensures goes_on { GoesOn (F.disk files.now) pipes.now log.old writer.old.batch.items (F.disk files.now) pipes.now log.new writer.new.batch.items result }
+    ensures cause { IfErr result (λ e. IsCleaningFault (F.meter files.now) (F.meter files.now) e) }
 {
     if !is_marked(log, group) {
         return Err(Error::EntryNotFound);
@@ -164,6 +168,7 @@ fn rewrite_all_entries<F: FileSystem>(
     requires { IsCleaningSome (F.disk files.old) pipes.old log.old writer.old.batch.items }
     ensures goes_on { GoesOn (F.disk files.old) pipes.old log.old writer.old.batch.items (F.disk files.new) pipes.new log.new writer.new.batch.items result }
     ensures later { RefusesNoMore (F.is_bounded files.old) (F.is_bounded files.new) (F.meter files.old) (F.meter files.new) }
+    ensures cause { IfErr result (λ e. IsCleaningFault (F.meter files.old) (F.meter files.new) e) }
 {
     if !is_marked(log, group) {
         return Ok(());
@@ -201,7 +206,8 @@ fn add_key<F: FileSystem>(
     name: Vec<u8>,
 ) -> Result<(), Error>
     requires { IsCleaningSome (F.disk files.now) pipes.now log.old writer.old.batch.items }
-    ensures { GoesOn (F.disk files.now) pipes.now log.old writer.old.batch.items (F.disk files.now) pipes.now log.new writer.new.batch.items result }
+    ensures goes_on { GoesOn (F.disk files.now) pipes.now log.old writer.old.batch.items (F.disk files.now) pipes.now log.new writer.new.batch.items result }
+    ensures cause { IfErr result (λ e. IsCleaningFault (F.meter files.now) (F.meter files.now) e) }
 {
     if name.is_empty() || !is_marked(log, group) {
         return Ok(());
@@ -231,6 +237,7 @@ fn rewrite_all_keys<F: FileSystem>(
     requires { IsCleaningSome (F.disk files.old) pipes.old log.old writer.old.batch.items }
     ensures goes_on { GoesOn (F.disk files.old) pipes.old log.old writer.old.batch.items (F.disk files.new) pipes.new log.new writer.new.batch.items result }
     ensures later { RefusesNoMore (F.is_bounded files.old) (F.is_bounded files.new) (F.meter files.old) (F.meter files.new) }
+    ensures cause { IfErr result (λ e. IsCleaningFault (F.meter files.old) (F.meter files.new) e) }
 {
     let Some(trace) = log.traces.get(group) else {
         return Ok(());
@@ -254,7 +261,8 @@ fn add_marks<F: FileSystem>(
     before: FileSeq,
 ) -> Result<(), Error>
     requires { IsCleaningSome (F.disk files.now) pipes.now log.old writer.old.batch.items }
-    ensures { GoesOn (F.disk files.now) pipes.now log.old writer.old.batch.items (F.disk files.now) pipes.now log.new writer.new.batch.items result }
+    ensures goes_on { GoesOn (F.disk files.now) pipes.now log.old writer.old.batch.items (F.disk files.now) pipes.now log.new writer.new.batch.items result }
+    ensures cause { IfErr result (λ e. IsCleaningFault (F.meter files.now) (F.meter files.now) e) }
 {
     match mark_group(
         alloc,
@@ -282,6 +290,7 @@ pub(crate) fn mark<F: FileSystem>(
     requires { IsCleaningSome (F.disk files.old) pipes.old log.old writer.old.batch.items }
     ensures goes_on { GoesOn (F.disk files.old) pipes.old log.old writer.old.batch.items (F.disk files.new) pipes.new log.new writer.new.batch.items result }
     ensures later { RefusesNoMore (F.is_bounded files.old) (F.is_bounded files.new) (F.meter files.old) (F.meter files.new) }
+    ensures cause { IfErr result (λ e. IsCleaningFault (F.meter files.old) (F.meter files.new) e) }
 {
     add_marks(alloc, files, pipes, log, writer, group, before)?;
     writer.flush_large(files, pipes, log)
@@ -300,6 +309,7 @@ pub(crate) fn rewrite_group<F: FileSystem>(
     requires { IsCleaningSome (F.disk files.old) pipes.old log.old writer.old.batch.items }
     ensures goes_on { GoesOn (F.disk files.old) pipes.old log.old writer.old.batch.items (F.disk files.new) pipes.new log.new writer.new.batch.items result }
     ensures later { RefusesNoMore (F.is_bounded files.old) (F.is_bounded files.new) (F.meter files.old) (F.meter files.new) }
+    ensures cause { IfErr result (λ e. IsCleaningFault (F.meter files.old) (F.meter files.new) e) }
 {
     mark(alloc, files, pipes, log, writer, group, before)?;
     rewrite_all_entries(alloc, files, pipes, log, writer, group, before)?;

@@ -18,13 +18,14 @@ pub fn of_record(error: RecordError) -> Error
     }
 }
 
-/// A refusal of marks. A group whose `Compact` would go past the greatest index is never marked.
+/// A refusal of marks. A group whose `Compact` would go past the greatest index is never marked, and no
+/// record has a key without bytes.
 pub(crate) fn of_mark(error: MarkError) -> Error
     ensures { result ≡ mark_fault error }
 {
     match error {
         MarkError::Record(error) => of_record(error),
-        MarkError::PastGreatestIndex => Error::EntryNotFound,
+        MarkError::EmptyKey | MarkError::PastGreatestIndex => Error::EntryNotFound,
     }
 }
 

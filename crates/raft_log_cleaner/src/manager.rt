@@ -2,7 +2,8 @@
 
 ghost use Rattle.std.specs.List.Sorted.{IsStrictlySortedBy};
 ghost use Rattle.std.specs.Ordering.{nat_cmp};
-ghost use Rattle.std.specs.Prelude.{◌≡◌, ◌+◌, ◌<◌, ◌^◌, ◌↔◌, ℕ, [], true, IfNone, IfOk, IfSome, IsOkAnd, IsTrue, OnErr, OnOk};
+ghost use Rattle.std.specs.Prelude.{◌≡◌, ◌+◌, ◌<◌, ◌^◌, ◌↔◌, ℕ, [], true, IfErr, IfNone, IfOk, IfSome, IsOkAnd, IsTrue, OnErr, OnOk};
+ghost use Rattle.raft_log_cleaner.specs.Caused.{IsCleaningFault};
 ghost use Rattle.raft_log_cleaner.specs.Cleaning.{CanCleanSome, Cleans, Finishes, GoesOn, IsCleaningSome, IsLeftStanding, KeepsFromBarrier};
 ghost use Rattle.raft_log_cleaner.specs.Facts.{TellEntries};
 ghost use Rattle.raft_log_cleaner.specs.Pipes.{KeepBoth, KeepsPipe, KeepsPipes, KeepsRewrites, LeavesPipes};
@@ -40,6 +41,7 @@ fn rewrite_each<F: FileSystem>(
     requires { IsCleaningSome (F.disk files.old) pipes.old log.old writer.old.batch.items }
     ensures goes_on { GoesOn (F.disk files.old) pipes.old log.old writer.old.batch.items (F.disk files.new) pipes.new log.new writer.new.batch.items result }
     ensures later { RefusesNoMore (F.is_bounded files.old) (F.is_bounded files.new) (F.meter files.old) (F.meter files.new) }
+    ensures cause { IfErr result (λ e. IsCleaningFault (F.meter files.old) (F.meter files.new) e) }
 {
     for group in groups {
         rewrite_group(alloc, files, pipes, log, writer, *group, before)?;
@@ -60,6 +62,7 @@ fn mark_each<F: FileSystem>(
     requires { IsCleaningSome (F.disk files.old) pipes.old log.old writer.old.batch.items }
     ensures goes_on { GoesOn (F.disk files.old) pipes.old log.old writer.old.batch.items (F.disk files.new) pipes.new log.new writer.new.batch.items result }
     ensures later { RefusesNoMore (F.is_bounded files.old) (F.is_bounded files.new) (F.meter files.old) (F.meter files.new) }
+    ensures cause { IfErr result (λ e. IsCleaningFault (F.meter files.old) (F.meter files.new) e) }
 {
     for group in groups {
         mark(alloc, files, pipes, log, writer, *group, before)?;
@@ -77,6 +80,7 @@ fn finish<F: FileSystem>(
     requires { IsCleaningSome (F.disk files.old) pipes.old log.old writer.old.batch.items }
     ensures finishes { Finishes (F.disk files.old) pipes.old log.old writer.old.batch.items (F.disk files.new) pipes.new log.new result }
     ensures later { RefusesNoMore (F.is_bounded files.old) (F.is_bounded files.new) (F.meter files.old) (F.meter files.new) }
+    ensures cause { IfErr result (λ e. IsCleaningFault (F.meter files.old) (F.meter files.new) e) }
 {
     writer.flush(files, pipes, log)?;
     writer.sync(files, pipes, log)
@@ -96,6 +100,7 @@ fn write_each<F: FileSystem>(
     requires { IsCleaningSome (F.disk files.old) pipes.old log.old writer.old.batch.items }
     ensures goes_on { GoesOn (F.disk files.old) pipes.old log.old writer.old.batch.items (F.disk files.new) pipes.new log.new writer.new.batch.items result }
     ensures later { RefusesNoMore (F.is_bounded files.old) (F.is_bounded files.new) (F.meter files.old) (F.meter files.new) }
+    ensures cause { IfErr result (λ e. IsCleaningFault (F.meter files.old) (F.meter files.new) e) }
 {
     mark_each(alloc, files, pipes, log, writer, marked, before)?;
     rewrite_each(alloc, files, pipes, log, writer, rewritten, before)
@@ -117,6 +122,7 @@ fn rewrite_groups<F: FileSystem>(
     ensures kept { OnOk result (KeepsPipes (F.disk files.old) pipes.old (F.disk files.new) pipes.new) }
     ensures left { OnErr result (LeavesPipes (F.disk files.old) pipes.old (F.disk files.new) pipes.new) }
     ensures later { RefusesNoMore (F.is_bounded files.old) (F.is_bounded files.new) (F.meter files.old) (F.meter files.new) }
+    ensures cause { IfErr result (λ e. IsCleaningFault (F.meter files.old) (F.meter files.new) e) }
 {
     let mut writer = Writer::new(alloc);
     write_each(
@@ -146,6 +152,7 @@ fn mark_groups<F: FileSystem>(
     ensures kept { OnOk result (KeepsPipes (F.disk files.old) pipes.old (F.disk files.new) pipes.new) }
     ensures left { OnErr result (LeavesPipes (F.disk files.old) pipes.old (F.disk files.new) pipes.new) }
     ensures later { RefusesNoMore (F.is_bounded files.old) (F.is_bounded files.new) (F.meter files.old) (F.meter files.new) }
+    ensures cause { IfErr result (λ e. IsCleaningFault (F.meter files.old) (F.meter files.new) e) }
 {
     let mut writer = Writer::new(alloc);
     mark_each(alloc, files, pipes, log, &mut writer, groups, before)?;
@@ -176,6 +183,7 @@ fn last_file<F: FileSystem>(
     ensures kept { OnOk result (KeepsPipes (F.disk files.old) pipes.old (F.disk files.new) pipes.new) }
     ensures left { OnErr result (LeavesPipes (F.disk files.old) pipes.old (F.disk files.new) pipes.new) }
     ensures later { RefusesNoMore (F.is_bounded files.old) (F.is_bounded files.new) (F.meter files.old) (F.meter files.new) }
+    ensures cause { IfErr result (λ e. IsCleaningFault (F.meter files.old) (F.meter files.new) e) }
 {
     let (_, active) = pipes.file_span(LogQueue::Append);
     if let Some(file) = named {
@@ -202,6 +210,7 @@ fn clean_groups<F: FileSystem>(
     ensures kept { OnOk result (KeepsPipes (F.disk files.old) pipes.old (F.disk files.new) pipes.new) }
     ensures left { OnErr result (LeavesPipes (F.disk files.old) pipes.old (F.disk files.new) pipes.new) }
     ensures later { RefusesNoMore (F.is_bounded files.old) (F.is_bounded files.new) (F.meter files.old) (F.meter files.new) }
+    ensures cause { IfErr result (λ e. IsCleaningFault (F.meter files.old) (F.meter files.new) e) }
 {
     match step {
         RewriteStep::Marks => mark_groups(alloc, files, pipes, log, groups, before),
@@ -306,6 +315,7 @@ impl PurgeManager {
         ensures kept { OnOk result (KeepsPipes (F.disk files.old) pipes.old (F.disk files.new) pipes.new) }
         ensures left { OnErr result (LeavesPipes (F.disk files.old) pipes.old (F.disk files.new) pipes.new) }
         ensures later { RefusesNoMore (F.is_bounded files.old) (F.is_bounded files.new) (F.meter files.old) (F.meter files.new) }
+        ensures cause { IfErr result (λ e. IsCleaningFault (F.meter files.old) (F.meter files.new) e) }
     {
         let last = last_file(files, pipes, log, file)?;
         let before = last.saturating_add(1);
@@ -334,6 +344,7 @@ impl PurgeManager {
         ensures both { OnOk result (KeepBoth (F.disk files.old) pipes.old (F.disk files.new) pipes.new) }
         ensures stands { OnErr result (IsLeftStanding (F.disk files.old) pipes.old log.now (F.disk files.new) pipes.new) }
         ensures later { RefusesNoMore (F.is_bounded files.old) (F.is_bounded files.new) (F.meter files.old) (F.meter files.new) }
+        ensures cause { IfErr result (λ e. IsCleaningFault (F.meter files.old) (F.meter files.new) e) }
     {
         let_go(files, pipes, &log.traces, barrier)
     }
@@ -379,6 +390,7 @@ impl PurgeManager {
         ensures both { OnOk result (KeepBoth (F.disk files.old) pipes.old (F.disk files.new) pipes.new) }
         ensures stands { OnErr result (IsLeftStanding (F.disk files.old) pipes.old log.old (F.disk files.new) pipes.new) }
         ensures later { RefusesNoMore (F.is_bounded files.old) (F.is_bounded files.new) (F.meter files.old) (F.meter files.new) }
+        ensures cause { IfErr result (λ e. IsCleaningFault (F.meter files.old) (F.meter files.new) e) }
     {
         let alloc = self.alloc;
         rewrite_groups(
@@ -423,6 +435,7 @@ impl PurgeManager {
             → IsOkAnd result (λ told. told.items ≡ []) × (files.new ≡ files.old) × (pipes.new ≡ pipes.old) × (log.new ≡ log.old) × (self.new ≡ self.old) }
         ensures set { (self.new.alloc ≡ self.old.alloc) × (self.new.purge_threshold ≡ self.old.purge_threshold) }
         ensures set_rewrites { (self.new.rewrite_threshold ≡ self.old.rewrite_threshold) × (self.new.garbage_percent ≡ self.old.garbage_percent) }
+        ensures cause { IfErr result (λ e. IsCleaningFault (F.meter files.old) (F.meter files.new) e) }
     {
         let Some(marks) = due_marks(pipes, self.purge_threshold) else {
             return Ok(Vec::new(self.alloc));

@@ -1,7 +1,8 @@
 //! What a cleaning writes to the rewrite queue.
 
-ghost use Rattle.std.specs.Prelude.{◌≡◌, ◌+◌, ◌^◌, ◌<◌, [], IfSome, OnOk};
+ghost use Rattle.std.specs.Prelude.{◌≡◌, ◌+◌, ◌^◌, ◌<◌, [], IfErr, IfSome, OnOk};
 ghost use Rattle.raft_log_blocks.specs.Held.{IsPlace};
+ghost use Rattle.raft_log_cleaner.specs.Caused.{IsCleaningFault};
 ghost use Rattle.raft_log_cleaner.specs.Cleaning.{GoesOn, IsCleaningSome, SyncsAll};
 ghost use Rattle.raft_log_disk.specs.Cause.{RefusesNoMore};
 ghost use Rattle.raft_log_records.specs.declared.block.EntriesBlock.{EntriesBlock};
@@ -45,6 +46,7 @@ fn write_batch<F: FileSystem>(
     ensures emptied { OnOk result (batch.new.items ≡ []) }
     ensures traces { log.new.traces ≡ log.old.traces }
     ensures later { RefusesNoMore (F.is_bounded files.old) (F.is_bounded files.new) (F.meter files.old) (F.meter files.new) }
+    ensures cause { IfErr result (λ e. IsCleaningFault (F.meter files.old) (F.meter files.new) e) }
 {
     let len = match batch.finish_populate() {
         Ok(len) => len,
@@ -93,6 +95,7 @@ impl Writer {
         ensures batch { self.new.batch ≡ self.old.batch }
         ensures synced { SyncsAll (F.disk files.old) pipes.old log.now self.old.batch.items (F.disk files.new) pipes.new result }
         ensures later { RefusesNoMore (F.is_bounded files.old) (F.is_bounded files.new) (F.meter files.old) (F.meter files.new) }
+        ensures cause { IfErr result (λ e. IsCleaningFault (F.meter files.old) (F.meter files.new) e) }
     {
         pipes.sync(files, LogQueue::Rewrite)?;
         self.unsynced = 0;
@@ -112,6 +115,7 @@ impl Writer {
         ensures emptied { OnOk result (self.new.batch.items ≡ []) }
         ensures traces { log.new.traces ≡ log.old.traces }
         ensures later { RefusesNoMore (F.is_bounded files.old) (F.is_bounded files.new) (F.meter files.old) (F.meter files.new) }
+        ensures cause { IfErr result (λ e. IsCleaningFault (F.meter files.old) (F.meter files.new) e) }
     {
         if self.batch.is_empty() {
             return Ok(());
@@ -135,6 +139,7 @@ impl Writer {
         ensures goes_on { GoesOn (F.disk files.old) pipes.old log.old self.old.batch.items (F.disk files.new) pipes.new log.new self.new.batch.items result }
         ensures traces { log.new.traces ≡ log.old.traces }
         ensures later { RefusesNoMore (F.is_bounded files.old) (F.is_bounded files.new) (F.meter files.old) (F.meter files.new) }
+        ensures cause { IfErr result (λ e. IsCleaningFault (F.meter files.old) (F.meter files.new) e) }
     {
         if self.batch.approximate_size() < MOST_BATCH_BYTES {
             return Ok(());

@@ -2,7 +2,8 @@
 
 ghost use Rattle.std.specs.List.Sorted.{IsStrictlySortedBy};
 ghost use Rattle.std.specs.Ordering.{nat_cmp};
-ghost use Rattle.std.specs.Prelude.{◌≡◌, ◌+◌, ◌↔◌, ℕ, true, false, IfOk, IsTrue, OnErr, OnOk, Option};
+ghost use Rattle.std.specs.Prelude.{◌≡◌, ◌+◌, ◌↔◌, ℕ, true, false, IfErr, IfOk, IsTrue, OnErr, OnOk, Option};
+ghost use Rattle.raft_log_cleaner.specs.Caused.{IsCleaningFault};
 ghost use Rattle.raft_log_cleaner.specs.Cleaning.{CanCleanSome, Cleans, IsLeftStanding, KeepsFromBarrier};
 ghost use Rattle.raft_log_cleaner.specs.Live.{AreLive};
 ghost use Rattle.raft_log_cleaner.specs.Pipes.{KeepBoth, KeepsRewrites};
@@ -81,6 +82,7 @@ fn clean_all<F: FileSystem>(
     ensures count { IfOk result (λ n. first_of pipes.old.append + n ≡ first_of pipes.new.append) }
     ensures held { OnOk result (KeepsRewrites pipes.old pipes.new) }
     ensures later { RefusesNoMore (F.is_bounded files.old) (F.is_bounded files.new) (F.meter files.old) (F.meter files.new) }
+    ensures cause { IfErr result (λ e. IsCleaningFault (F.meter files.old) (F.meter files.new) e) }
 {
     if let Err(error) = manager.must_rewrite_append_queue(files, pipes, log, None, step) {
         return Err(error);
@@ -109,6 +111,7 @@ fn purge_stale<F: FileSystem>(
     ensures count { IfOk result (λ n. first_of pipes.old.append + n ≡ first_of pipes.new.append) }
     ensures replaced { OnOk result (HasNewRewrites pipes.old pipes.new) }
     ensures later { RefusesNoMore (F.is_bounded files.old) (F.is_bounded files.new) (F.meter files.old) (F.meter files.new) }
+    ensures cause { IfErr result (λ e. IsCleaningFault (F.meter files.old) (F.meter files.new) e) }
 {
     if let Err(error) = write_anew(alloc, files, pipes, log) {
         return Err(error);
@@ -151,6 +154,7 @@ pub fn clean<F: FileSystem>(
     ensures there { IfOk result (λ done. (group : ℕ) → is_among done.told.items group ≡ true → (content_in log.old.tables group).there ≡ true) }
     ensures threshold { manager.new.purge_threshold ≡ manager.old.purge_threshold }
     ensures later { RefusesNoMore (F.is_bounded files.old) (F.is_bounded files.new) (F.meter files.old) (F.meter files.new) }
+    ensures cause { IfErr result (λ e. IsCleaningFault (F.meter files.old) (F.meter files.new) e) }
 {
     match extent {
         Extent::All => match clean_all(manager, files, pipes, log, RewriteStep::Rewrites, barrier) {

@@ -2,7 +2,8 @@
 
 ghost use Rattle.std.specs.List.Sorted.{IsStrictlySortedBy};
 ghost use Rattle.std.specs.Ordering.{nat_cmp};
-ghost use Rattle.std.specs.Prelude.{◌≡◌, ◌+◌, ℕ, false, true, IfOk, OnErr, OnOk, Option};
+ghost use Rattle.std.specs.Prelude.{◌≡◌, ◌+◌, ℕ, false, true, IfErr, IfOk, OnErr, OnOk, Option};
+ghost use Rattle.raft_log_cleaner.specs.Caused.{IsCleaningFault};
 ghost use Rattle.raft_log_cleaner.specs.Cleaning.{CanCleanSome, Cleans, IsLeftStanding, KeepsFromBarrier};
 ghost use Rattle.raft_log_cleaner.specs.Live.{AreLive};
 ghost use Rattle.raft_log_cleaner.specs.Pipes.{KeepBoth, KeepsRewrites};
@@ -41,6 +42,7 @@ fn write_queue<F: FileSystem>(
     ensures append { pipes.new.append ≡ pipes.old.append }
     ensures barrier { (barrier : Option ℕ) → OnOk result (KeepsFromBarrier barrier pipes.old pipes.new) }
     ensures later { RefusesNoMore (F.is_bounded files.old) (F.is_bounded files.new) (F.meter files.old) (F.meter files.new) }
+    ensures cause { IfErr result (λ e. IsCleaningFault (F.meter files.old) (F.meter files.new) e) }
 {
     must_rewrite_rewrite_queue(alloc, files, pipes, log)
 }
@@ -63,6 +65,7 @@ pub(crate) fn write_anew<F: FileSystem>(
     ensures begins_again { OnOk result (AreLive log.old log.new.written) }
     ensures barrier { (barrier : Option ℕ) → OnOk result (KeepsFromBarrier barrier pipes.old pipes.new) }
     ensures later { RefusesNoMore (F.is_bounded files.old) (F.is_bounded files.new) (F.meter files.old) (F.meter files.new) }
+    ensures cause { IfErr result (λ e. IsCleaningFault (F.meter files.old) (F.meter files.new) e) }
 {
     let live = live_of(log)?;
     write_queue(alloc, files, pipes, log)?;
@@ -87,6 +90,7 @@ fn write_and_tell<F: FileSystem>(
     ensures begins_again { OnOk result (AreLive log.old log.new.written) }
     ensures told { IfOk result (λ many. AreMany log.old (is_named many)) }
     ensures later { RefusesNoMore (F.is_bounded files.old) (F.is_bounded files.new) (F.meter files.old) (F.meter files.new) }
+    ensures cause { IfErr result (λ e. IsCleaningFault (F.meter files.old) (F.meter files.new) e) }
 {
     let many = many_rewritten(alloc, log)?;
     write_anew(alloc, files, pipes, log)?;
@@ -118,6 +122,7 @@ fn purge_appends<F: FileSystem>(
     ensures told { IfOk result (λ told. IsToldBehind manager.old pipes.old log.old manager.new.reports (is_named many) told.items) }
     ensures threshold { manager.new.purge_threshold ≡ manager.old.purge_threshold }
     ensures later { RefusesNoMore (F.is_bounded files.old) (F.is_bounded files.new) (F.meter files.old) (F.meter files.new) }
+    ensures cause { IfErr result (λ e. IsCleaningFault (F.meter files.old) (F.meter files.new) e) }
 {
     let told = manager.purge_expired_files(files, pipes, log, barrier)?;
     name_all(&mut many, &told)?;
@@ -148,6 +153,7 @@ fn purge_both<F: FileSystem>(
     ensures replaced { OnOk result (HasNewRewrites pipes.old pipes.new) }
     ensures threshold { manager.new.purge_threshold ≡ manager.old.purge_threshold }
     ensures later { RefusesNoMore (F.is_bounded files.old) (F.is_bounded files.new) (F.meter files.old) (F.meter files.new) }
+    ensures cause { IfErr result (λ e. IsCleaningFault (F.meter files.old) (F.meter files.new) e) }
 {
     let many = write_and_tell(alloc, files, pipes, log)?;
     purge_appends(alloc, manager, files, pipes, log, many, barrier)
@@ -181,6 +187,7 @@ pub(crate) fn purge_expired<F: FileSystem>(
         → IfOk result (λ told. AreTold log.old (marks_of_pipe pipes.old.append) manager.old.reports manager.new.reports told.items) }
     ensures threshold { manager.new.purge_threshold ≡ manager.old.purge_threshold }
     ensures later { RefusesNoMore (F.is_bounded files.old) (F.is_bounded files.new) (F.meter files.old) (F.meter files.new) }
+    ensures cause { IfErr result (λ e. IsCleaningFault (F.meter files.old) (F.meter files.new) e) }
 {
     if due.rewrites {
         return purge_both(alloc, manager, files, pipes, log, barrier);

@@ -1,5 +1,5 @@
 -- Why a call is refused.
-use Rattle.std.specs.Prelude.{◌≡◌, ◌⊎◌, ℕ, ◌+◌, ◌-◌, ◌^◌, ◌≤◌, min, List, [], Option, Some, None, Result, Ok, Err, IsErr, IsErrOf}
+use Rattle.std.specs.Prelude.{◌≡◌, ◌⊎◌, ℕ, ◌+◌, ◌-◌, ◌^◌, ◌<◌, ◌≤◌, min, List, [], Option, Some, None, Result, Ok, Err, IsErr, IsErrOf}
 use Rattle.std.specs.Prelude.{Bool, true, false, IsTrue, is_ok, if◌then◌else◌}
 use Rattle.raft_log_disk.specs.declared.fault.IoFault.{IoFault}
 use Rattle.raft_log_disk.specs.declared.fault.IoFault.TheVariants.{NotFound, NoSpace, Refused, Memory}
@@ -105,14 +105,24 @@ Rises n old new = min (old.refusals + n) (2 ^ 64 - 1) ≤ new.refusals
 abbrev pub Lacks : ℕ → Meter → Meter → Type 0
 Lacks n old new = min (old.lacks + n) (2 ^ 64 - 1) ≤ new.lacks
 
--- after some calls no more is set to refuse than before, and neither count fell
+-- after some calls no more is set to refuse than before, and neither count fell: where no fuse was set none is, and one that was
+-- set takes no more calls than it did
 pub record RefusesNoMore (bounded bounded_then : Type 0) (old new : Meter) : Type 0 where
   pub fuse : old.calls_left ≡ None → new.calls_left ≡ None
+  pub burns : (n : ℕ) → old.calls_left ≡ Some n → (m : ℕ) × (new.calls_left ≡ Some m) × (m ≤ n)
   pub reads : new.unreadable ≡ old.unreadable
   pub sound : new.is_faulty ≡ old.is_faulty
   pub room : bounded_then → bounded
   pub counts : Rises 0 old new
   pub spaces : Lacks 0 old new
+
+-- each changing call is refused
+abbrev pub IsBlown : Meter → Type 0
+IsBlown meter = meter.calls_left ≡ Some 0
+
+-- of a fuse one call more is spent at least: none was blown
+abbrev pub Spends : Meter → Meter → Type 0
+Spends old new = (n : ℕ) → old.calls_left ≡ Some n → (m : ℕ) × (new.calls_left ≡ Some m) × (m < n)
 
 -- a call is taken unless memory is missing, what it names isn't there, or what it asks for can't be
 abbrev pub IsTaken : {T : Type 0} → Type 0 → Type 0 → Result T IoFault → Type 0

@@ -62,7 +62,7 @@ pub trait CrashFiles: FileSystem {
         ensures bound { Self.FileSystem.is_bounded self.new → Self.FileSystem.is_bounded self.old };
 
     /// Leaves what the choice says, which is the file system from then on, with nothing unsynced.
-    /// Files keep their numbers, and the fuse stays as it is.
+    /// Files keep their numbers, and the fuse stays as it is. An `Err` changes nothing.
     fn crash(&mut self, choice: &CrashChoice) -> Result<(), CrashRefusal>
         ensures image { OnOk result (IsImageOf choice.now (Self.FileSystem.disk self.old)) }
         ensures genuine { OnOk result (IsGenuineImage (Self.FileSystem.disk self.old) (image_of choice.now (Self.FileSystem.disk self.old).names (Self.FileSystem.disk self.old).file)) }
@@ -72,7 +72,7 @@ pub trait CrashFiles: FileSystem {
         ensures is_an_image { result ≡ Err ByChance → IsImageOf choice.now (Self.FileSystem.disk self.old) }
         ensures by_chance { result ≡ Err ByChance → IsGenuineImage (Self.FileSystem.disk self.old) (image_of choice.now (Self.FileSystem.disk self.old).names (Self.FileSystem.disk self.old).file)
             → ⊥ }
-        ensures err { OnErr result (Self.FileSystem.disk self.new ≡ Self.FileSystem.disk self.old) }
+        ensures err { OnErr result (self.new ≡ self.old) }
         ensures meter { Self.FileSystem.meter self.new ≡ Self.FileSystem.meter self.old }
         ensures bound { Self.FileSystem.is_bounded self.new → Self.FileSystem.is_bounded self.old };
 

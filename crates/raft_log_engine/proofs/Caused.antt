@@ -16,7 +16,7 @@ use Rattle.raft_log_memtables.specs.declared.fetch.FetchError.TheVariants as fet
 use Rattle.raft_log_memtables.specs.declared.memtables.MemTables.{MemTables}
 use Rattle.raft_log_memtables.specs.Content.{GroupContent}
 use Rattle.raft_log_memtables.specs.Fetch.{Fetches}
-use Rattle.raft_log_engine.specs.Caused.{IsCausedBy, IsCompactionFault, IsCopyFault, IsFetchFault, IsSyncFault, IsUnread, IsWriteFault, fetch_fault}
+use Rattle.raft_log_engine.specs.Caused.{IsCausedBy, IsCleaningCause, IsCompactionFault, IsCopyFault, IsFetchFault, IsSyncFault, IsUnread, IsWriteFault, fetch_fault}
 use Rattle.raft_log_blocks.specs.Unread.{IsUnread as IsUnreadFor}
 use Rattle.raft_log_engine.specs.Parts.{Parts}
 use Rattle.raft_log_engine.specs.Reads.{compaction}
@@ -96,6 +96,16 @@ module _ {F : Type 0} (disk : F → Disk) (e : Parts F) (items : Batch) (old new
 -- want of memory for it
 pub compaction_memory_cause : {F : Type 0} (disk : F → Disk) (e : Parts F) (old new : Meter) (x : EngineFault) → x ≡ Log Memory → IsCompactionFault disk e old new x
 compaction_memory_cause disk e old new x is = subst (λ (z : EngineFault). IsCompactionFault disk e old new z) (sym is) tt
+
+-- ---- cleanings
+
+-- a fault that isn't `Marked` has its cause, whatever bars a cleaning
+pub unmarked_cause : (stopped barred : Type 0) (old new : Meter) (fault : EngineFault) → (fault ≡ Marked → ⊥) → IsCleaningCause stopped barred old new fault → IsCleaningCause stopped ⊥ old new fault
+unmarked_cause stopped barred old new Stopped other why = why
+unmarked_cause stopped barred old new Marked other why = other refl
+unmarked_cause stopped barred old new NotTaken other why = why
+unmarked_cause stopped barred old new NotAMessage other why = why
+unmarked_cause stopped barred old new (Log e) other why = why
 
 -- ---- reads of entries
 

@@ -1,6 +1,6 @@
 -- A log whose files crash where they lie, and files that show nothing by chance.
 use Rattle.std.proofs.Common.{◌≡◌, ◌⊎◌, inl, inr, ℕ, Bool, true, false, cond, eqb, List, [], ◌∷◌, refl, sym, ap, subst, ◌∙◌}
-use Rattle.std.specs.Prelude.{Result, Ok, Err, IfErr, OnErr, OnOk, MatchOption}
+use Rattle.std.specs.Prelude.{◌-◌, Option, option_map, Result, Ok, Err, IfErr, OnOk, MatchOption}
 use Rattle.std.specs.List.{AllByRecursion}
 use Rattle.std.proofs.lemmas.Bool.{eqb-false, eqb-true, false≢true}
 use Rattle.raft_log_disk.specs.declared.crash.CrashChoice.TheVariants.{Most}
@@ -8,6 +8,7 @@ use Rattle.raft_log_disk.specs.declared.crash.CrashChoice.{CrashChoice}
 use Rattle.raft_log_disk.specs.declared.crash.CrashRefusal.{CrashRefusal}
 use Rattle.raft_log_disk.specs.declared.crash.CrashRefusal.TheVariants.{ByChance, Memory, NotAnImage}
 use Rattle.raft_log_disk.specs.declared.memory.MemoryFileSystem.{MemoryFileSystem}
+use Rattle.raft_log_disk.specs.Cause.{Meter}
 use Rattle.raft_log_disk.specs.Chance.{IsGenuine, IsGenuineImage}
 use Rattle.raft_log_disk.specs.Disk.{Disk, FileState, IsIn, settled}
 use Rattle.raft_log_disk.specs.Image.{Image, IsFileImage, IsImage, IsImageOf, after_crash, image_of, seen_image}
@@ -25,9 +26,8 @@ use Rattle.raft_log_pipes.specs.Pipes.{pipe_of}
 use Rattle.raft_log_recovery.specs.Crashed.{HasLastingHole, IsCrashed}
 use Rattle.raft_log_cleaner.specs.Pipes.{HasHoleBefore}
 use Rattle.raft_log_engine.specs.Parts.{Parts}
-use Rattle.raft_log_engine.specs.Log.{CantBeLeftSo, IsCrashedLog, IsFoundBy, IsLog, IsSameLog, LogOn, MayBeFound, leaves_of_log, main_directory}
+use Rattle.raft_log_engine.specs.Log.{AreCrashed, AreFused, CantBeLeftSo, IsFoundBy, IsLog, LogOn, left_by, leaves_of_log, main_directory}
 use Rattle.raft_log_engine.specs.Reopened.{OpensInTail, StandAlone, directories_of_engine, directories_of_pipes}
-use Rattle.raft_log_engine.proofs.Logs.{found_as_read}
 
 -- ---- why files can't be left so
 
@@ -134,24 +134,21 @@ module _ (d : Disk) where
 pub most_of_memory : (m : MemoryFileSystem) → IsImageOf Most (disk_in m)
 most_of_memory m = most_is_an_image (disk_in m) (memory_is_named m) (memory_images m)
 
--- ---- a log whose machine stopped
+-- ---- what was chosen, and a fuse
 
-pub is_crashed : (old new : LogOn MemoryFileSystem) (result : Result (Unit {0}) CrashRefusal)
-    → OnOk result ((content : Content (List ℕ)) → IsFoundBy old.settings (disk_in new.engine.files) content → leaves_of_log disk_in old content)
-    → OnErr result (IsSameLog disk_in old new) → new.settings ≡ old.settings → IsCrashedLog disk_in old new
-is_crashed old new (Ok done) left same settings = record {
-  settings = settings;
-  found = λ content genuine found. left content (subst (λ s. IsFoundBy s (disk_in new.engine.files) content) settings found);
-}
-is_crashed old new (Err why) left same settings = record {
-  settings = settings;
-  found = λ content genuine found. inr (subst (λ d. MayBeFound old.settings d content) same.disk_stays
-      (found_as_read old.settings new.engine.files content genuine (subst (λ s. IsFoundBy s (disk_in new.engine.files) content) settings found)));
-}
+-- a crash leaves what was chosen, and the fuse as it was
+pub are_crashed : {F X E : Type 0} (disk : F → Disk) (meter : F → Meter) (r : Result X E) (choice : CrashChoice) (old new : F) → OnOk r (IsImageOf choice (disk old)) → OnOk r (IsGenuineImage (disk old) (left_by choice (disk old)))
+    → OnOk r (disk new ≡ after_crash (disk old) (left_by choice (disk old))) → meter new ≡ meter old → OnOk r (AreCrashed disk meter old choice new)
+are_crashed disk meter (Ok x) choice old new is genuine left fuse = record { image = is; genuine = genuine; left = left; fuse = fuse }
+are_crashed disk meter (Err e) choice old new is genuine left fuse = tt
 
--- also where it takes no write any more
-pub crashed_still : (old new : LogOn MemoryFileSystem) → IsCrashedLog disk_in old new → IsCrashedLog disk_in old (record new { has_failed = true })
-crashed_still old new c = record { settings = c.settings; found = c.found }
+-- a fuse changes what is left of it alone
+pub are_fused : {F : Type 0} (disk : F → Disk) (meter : F → Meter) (old new : F) (first : Option ℕ) → disk new ≡ disk old → (meter new).calls_left ≡ option_map (λ n. n - 1) first → (meter new).refusals ≡ (meter old).refusals
+    → (meter new).lacks ≡ (meter old).lacks → (meter new).unreadable ≡ (meter old).unreadable → (meter new).is_faulty ≡ (meter old).is_faulty → AreFused disk meter old first new
+are_fused disk meter old new first same calls refusals lacks reads faulty = record {
+  same = same;
+  fuse = λ i. record { refusals = refusals i; lacks = lacks i; calls_left = calls i; unreadable = reads i; is_faulty = faulty i };
+}
 
 -- ---- a log whose engine changed in nothing that is said of it
 

@@ -30,3 +30,4 @@ pub mod Handed
 pub mod Barred
 pub mod KeptFiles
 pub mod HearingLemmas
+pub mod Fitting

@@ -23,6 +23,7 @@ use Rattle.raft_log_engine.specs.Opening.{IsFoundContent}
 use Rattle.raft_log_engine.specs.Reopened.{OpensAs, OpensAsEither, OpensInTail, directories_of_engine}
 use Rattle.raft_log_engine.proofs.Clauses.{leaves_elsewhere}
 use Rattle.raft_log_engine.proofs.Reopened.{same_directories}
+use Rattle.raft_log_files.specs.declared.recovery.RecoveryMode.TheVariants.{TolerateTailCorruption}
 
 abbrev Seen : Type 0
 Seen = Content (List ℕ)
@@ -40,11 +41,9 @@ found_as_read settings m content genuine found = record {
 -- ---- a crash
 
 pub crashes : {X E : Type 0} (r : Result X E) (choice : CrashChoice) (old new : Disk) → OnOk r (IsImageOf choice old) → OnOk r (IsGenuineImage old (image_of choice old.names old.file))
-    → OnOk r (new ≡ after_crash old (image_of choice old.names old.file)) → OnOk r ((image : Image) × IsCrashed old image new)
-crashes (Ok x) choice old new is genuine same = (
-  image_of choice old.names old.file,
-  record { is = is.1; genuine = genuine; names = ap (λ (d : Disk). d.names) same; bytes = λ n. ap (λ (d : Disk). (d.file n).bytes) same },
-)
+    → OnOk r (new ≡ after_crash old (image_of choice old.names old.file)) → OnOk r (IsCrashed old (image_of choice old.names old.file) new)
+crashes (Ok x) choice old new is genuine same =
+    record { is = is.1; genuine = genuine; names = ap (λ (d : Disk). d.names) same; bytes = λ n. ap (λ (d : Disk). (d.file n).bytes) same }
 crashes (Err x) choice old new is genuine same = tt
 
 -- ---- what is left
@@ -69,14 +68,14 @@ module _ {F : Type 0} (disk : F → Disk) (settings : Config) where
       → ((image : Image) (d : Disk) (mode : RecoveryMode) (found : Seen) → IsCrashed (disk e.files) image d → IsFoundContent mode (directories_of_engine e) d found → P found)
       → (left : Seen) → MayBeFound settings (disk e.files) left → P left
   found_there e P at each left may =
-      each may.image may.left settings.recovery_mode left may.crashed
-      (subst (λ (l : List Text). IsFoundContent settings.recovery_mode l may.left left) (sym at) may.found)
+      each may.image may.left TolerateTailCorruption left may.crashed
+      (subst (λ (l : List Text). IsFoundContent TolerateTailCorruption l may.left left) (sym at) may.found)
 
   -- of files that a close handed back what the log answered is found
   pub found_closed : (e : Parts F) (d : Disk) → IsInMain e → OpensAs (directories_of_engine e) d (answers_on disk e) → (left : Seen) → MayBeFound settings d left → left ≡ answers_on disk e
   found_closed e d at opens left may =
-      opens may.image may.left settings.recovery_mode left may.crashed
-      (subst (λ (l : List Text). IsFoundContent settings.recovery_mode l may.left left) (sym at) may.found)
+      opens may.image may.left TolerateTailCorruption left may.crashed
+      (subst (λ (l : List Text). IsFoundContent TolerateTailCorruption l may.left left) (sym at) may.found)
 
   -- one content is found, and answered
   pub leaves_only : (e : Parts F) (has_failed : Bool) (content : Seen) → IsInMain e → answers_on disk e ≡ content → OpensAs (directories_of_engine e) (disk e.files) content

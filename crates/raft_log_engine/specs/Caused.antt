@@ -13,6 +13,7 @@ use Rattle.raft_log_pipe.specs.Blocks.{files_of}
 use Rattle.raft_log_pipe.specs.Caused.{IsAppendFault, IsRefusalOrMemory}
 use Rattle.raft_log_pipes.specs.declared.pipes.DualPipes.{DualPipes}
 use Rattle.raft_log_pipes.specs.Pipes.{pipe_of}
+use Rattle.raft_log_cleaner.specs.Caused.{IsCleaningFault}
 use Rattle.raft_log_memtables.specs.declared.fetch.FetchError.{FetchError}
 use Rattle.raft_log_memtables.specs.declared.fetch.FetchError.TheVariants as fetch
 use Rattle.raft_log_memtables.specs.Content.{GroupContent}
@@ -47,6 +48,10 @@ IsWriteFault disk e (item ∷ items) old new fault = AreItemsRefused disk e (IsM
 -- the batch of a compaction isn't refused
 abbrev pub IsCompactionFault : {F : Type 0} → (F → Disk) → Parts F → Meter → Meter → EngineFault → Type 0
 IsCompactionFault disk e old new fault = AreItemsRefused disk e ⊥ ⊥ old new fault
+
+-- of a cleaning, where it isn't barred: the sync before it counts, too
+abbrev pub IsCleaningCause : (stopped barred : Type 0) → Meter → Meter → EngineFault → Type 0
+IsCleaningCause stopped barred old new fault = IsCausedBy stopped barred ⊥ (IsCleaningFault old new) fault
 
 -- ---- reads of entries
 

@@ -1,14 +1,16 @@
 -- A log over one engine, each of whose writes is synced: what it answers, and what the next opening of its files may answer.
-use Rattle.std.specs.Prelude.{◌≡◌, ◌⊎◌, ◌↔◌, ℕ, Bool, false, List, [], ◌∷◌}
+use Rattle.std.specs.Prelude.{◌≡◌, ◌⊎◌, ◌↔◌, ◌-◌, ℕ, Bool, false, List, [], ◌∷◌, Option, option_map}
 use Rattle.std.specs.String.{string_bytes}
 use Rattle.raft_log_disk.specs.Chance.{IsGenuineImage}
 use Rattle.raft_log_disk.specs.Disk.{Disk}
-use Rattle.raft_log_disk.specs.Image.{Image, IsImageOf, image_of, seen_image}
+use Rattle.raft_log_disk.specs.Cause.{Meter}
+use Rattle.raft_log_disk.specs.Image.{Image, IsImageOf, after_crash, image_of}
 use Rattle.raft_log_disk.specs.Text.{Text}
 use Rattle.raft_log_disk.specs.declared.crash.CrashChoice.{CrashChoice}
 use Rattle.raft_log_disk.specs.declared.crash.CrashRefusal.{CrashRefusal}
 use Rattle.raft_log_disk.specs.declared.crash.CrashRefusal.TheVariants.{ByChance, Memory, NotAnImage}
 use Rattle.raft_log_files.specs.declared.config.Config.{Config}
+use Rattle.raft_log_files.specs.declared.recovery.RecoveryMode.TheVariants.{TolerateTailCorruption}
 use Rattle.raft_log_memtables.specs.Content.{Content}
 use Rattle.raft_log_recovery.specs.Crashed.{IsCrashed}
 use Rattle.raft_log_engine.specs.Parts.{Parts}
@@ -27,9 +29,10 @@ pub record LogOn (F : Type 0) : Type 0 where
 abbrev pub main_directory : Config → List Text
 main_directory settings = string_bytes settings.dir ∷ []
 
--- an opening by these settings answers this content
+-- An opening of a node's log by these settings answers this content. Whatever mode they name, it tolerates what a crash leaves: a torn
+-- tail
 abbrev pub IsFoundBy : Config → Disk → Content (List ℕ) → Type 0
-IsFoundBy settings d content = IsFoundContent settings.recovery_mode (main_directory settings) d content
+IsFoundBy settings d content = IsFoundContent TolerateTailCorruption (main_directory settings) d content
 
 -- it may answer this content after a crash
 pub record MayBeFound (settings : Config) (d : Disk) (content : Content (List ℕ)) : Type 0 where
@@ -50,17 +53,38 @@ pub record IsLog {F : Type 0} (disk : F → Disk) (e : Parts F) (settings : Conf
 abbrev pub leaves_of_log : {F : Type 0} → (F → Disk) → LogOn F → Content (List ℕ) → Type 0
 leaves_of_log disk l content = ((l.has_failed ≡ false) × (content ≡ answers_on disk l.engine)) ⊎ MayBeFound l.settings (disk l.engine.files) content
 
--- The log's machine stopped: what an opening finds of the files as they are, unless they show by chance what nobody wrote, was
--- left by the log before
-pub record IsCrashedLog {F : Type 0} (disk : F → Disk) (old new : LogOn F) : Type 0 where
+-- what the choice leaves of these files
+abbrev pub left_by : CrashChoice → Disk → Image
+left_by choice d = image_of choice d.names d.file
+
+-- A crash left of the files just what the choice says: bytes that a crash may leave, and nothing among them that passes by chance for
+-- what a call wrote. The fuse is as it was
+pub record AreCrashed {F : Type 0} (disk : F → Disk) (meter : F → Meter) (old : F) (choice : CrashChoice) (new : F) : Type 0 where
+  pub image : IsImageOf choice (disk old)
+  pub genuine : IsGenuineImage (disk old) (left_by choice (disk old))
+  pub left : disk new ≡ after_crash (disk old) (left_by choice (disk old))
+  pub fuse : meter new ≡ meter old
+
+-- They refuse each changing call from this one on, the first one counted as 1, or none any more. They have what they had
+pub record AreFused {F : Type 0} (disk : F → Disk) (meter : F → Meter) (old : F) (first_refused : Option ℕ) (new : F) : Type 0 where
+  pub same : disk new ≡ disk old
+  pub fuse : meter new ≡ record (meter old) { calls_left = option_map (λ n. n - 1) first_refused }
+
+-- The log's machine stopped, and left of its files what the choice says: what an opening finds of them was left by the log before
+pub record IsCrashedLog {F : Type 0} (disk : F → Disk) (meter : F → Meter) (old : LogOn F) (choice : CrashChoice) (new : LogOn F) : Type 0 where
   pub settings : new.settings ≡ old.settings
-  pub found : (content : Content (List ℕ)) → IsGenuineImage (disk new.engine.files) (seen_image (disk new.engine.files))
-      → IsFoundBy new.settings (disk new.engine.files) content → leaves_of_log disk old content
+  pub files : AreCrashed disk meter old.engine.files choice new.engine.files
+  pub found : (content : Content (List ℕ)) → IsFoundBy new.settings (disk new.engine.files) content → leaves_of_log disk old content
+
+-- The log's files got this fuse, and the log is as it was
+pub record IsFusedLog {F : Type 0} (disk : F → Disk) (meter : F → Meter) (old : LogOn F) (first_refused : Option ℕ) (new : LogOn F) : Type 0 where
+  pub settings : new.settings ≡ old.settings
+  pub files : AreFused disk meter old.engine.files first_refused new.engine.files
 
 -- no crash leaves the files so; or they would show by chance what nobody wrote; or memory was lacking
 abbrev pub CantBeLeftSo : CrashChoice → CrashRefusal → Disk → Type 0
 CantBeLeftSo choice NotAnImage d = IsImageOf choice d → ⊥
-CantBeLeftSo choice ByChance d = IsImageOf choice d × (IsGenuineImage d (image_of choice d.names d.file) → ⊥)
+CantBeLeftSo choice ByChance d = IsImageOf choice d × (IsGenuineImage d (left_by choice d) → ⊥)
 CantBeLeftSo choice Memory d = Unit {0}
 
 -- a log as it was, but that its files may be others that have the same

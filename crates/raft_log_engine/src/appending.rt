@@ -1,6 +1,6 @@
 //! An append, and a sync behind it.
-ghost use Rattle.std.specs.Prelude.{◌≡◌, ◌+◌, ◌^◌, ◌<◌, ◌++◌, ◌∷◌, [], ℕ, IfErr, IfOk, OnOk, OnErr};
-ghost use Rattle.raft_log_disk.specs.Cause.{NothingRefuses, RefusesNoMore};
+ghost use Rattle.std.specs.Prelude.{◌≡◌, ◌+◌, ◌^◌, ◌<◌, ◌++◌, ◌∷◌, [], ℕ, IfErr, IfOk, OnOk, OnErr, true};
+ghost use Rattle.raft_log_disk.specs.Cause.{NothingRefuses, RefusesNoMore, Spends};
 ghost use Rattle.raft_log_blocks.specs.Held.{HoldsMore};
 ghost use Rattle.raft_log_pipe.specs.Alone.{IsAlone, IsNearlyAlone};
 ghost use Rattle.raft_log_pipe.specs.Appending.{LeavesAppended, Stands};
@@ -45,6 +45,7 @@ pub(crate) fn append_batch<F: FileSystem>(
     ensures later { RefusesNoMore (F.is_bounded files.old) (F.is_bounded files.new) (F.meter files.old) (F.meter files.new) }
     ensures taken { NothingRefuses (F.is_bounded files.old) (F.meter files.old) → IsAppendTaken pipes.old.append (F.disk files.old) batch.old.items result }
     ensures cause { IfErr result (λ e. IsAppendFault pipes.old.append (F.disk files.old) (F.meter files.old) (F.meter files.new) e) }
+    ensures spends { OnOk result (sync ≡ true → Spends (F.meter files.old) (F.meter files.new)) }
 {
     let handle = pipes.append(files, LogQueue::Append, batch)?;
     if !sync {

@@ -1,7 +1,7 @@
 //! Writes and reads of an engine.
 ghost use Rattle.std.specs.Prelude.{◌≡◌, ◌≤◌, ◌+◌, ◌++◌, ℕ, List, [], true, false, Err, IfErr, IfOk, OnOk, OnErr, length, option_map};
 ghost use Rattle.raft_content_log.specs.Leaving.{AgreesElsewhere, IsWritten, LeavesElsewhere, LeavesNoMore, MayBeWritten};
-ghost use Rattle.raft_log_disk.specs.Cause.{NothingRefuses, RefusesNoMore};
+ghost use Rattle.raft_log_disk.specs.Cause.{NothingRefuses, RefusesNoMore, Spends};
 ghost use Rattle.raft_log_engine.specs.Barred.{KeepsFound};
 ghost use Rattle.raft_log_engine.specs.Caused.{IsFetchFault, IsSyncFault, IsWriteFault};
 ghost use Rattle.raft_log_engine.specs.Left.{IsSound, answers_on, leaves_on};
@@ -63,6 +63,7 @@ impl<F: FileSystem + Drop> Engine<F> {
         ensures later { RefusesNoMore (F.is_bounded self.old.files) (F.is_bounded self.new.files) (F.meter self.old.files) (F.meter self.new.files) }
         ensures taken { NothingRefuses (F.is_bounded self.old.files) (F.meter self.old.files) → IsWriteTaken F.disk self.old batch.old.items result }
         ensures cause { IfErr result (λ fault. IsWriteFault F.disk self.old batch.old.items (F.meter self.old.files) (F.meter self.new.files) fault) }
+        ensures spends { OnOk result (sync ≡ true → Spends (F.meter self.old.files) (F.meter self.new.files)) }
     {
         let mut none: [PurgeHook; 0] = [];
         self.write_with(batch, sync, &mut none)
@@ -96,6 +97,7 @@ impl<F: FileSystem + Drop> Engine<F> {
         ensures later { RefusesNoMore (F.is_bounded self.old.files) (F.is_bounded self.new.files) (F.meter self.old.files) (F.meter self.new.files) }
         ensures taken { NothingRefuses (F.is_bounded self.old.files) (F.meter self.old.files) → IsSyncTaken self.old result }
         ensures cause { IfErr result (λ fault. IsSyncFault self.old (F.meter self.old.files) (F.meter self.new.files) fault) }
+        ensures spends { OnOk result (Spends (F.meter self.old.files) (F.meter self.new.files)) }
     {
         if self.is_stopped {
             return Err(EngineFault::Stopped);

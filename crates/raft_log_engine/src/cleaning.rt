@@ -11,12 +11,14 @@ ghost use Rattle.raft_log_cleaning.specs.declared.cleaning.Extent.TheVariants.{A
 ghost use Rattle.raft_log_cleaning.specs.declared.due.Due.{Due};
 ghost use Rattle.raft_log_disk.specs.Cause.{RefusesNoMore};
 ghost use Rattle.raft_log_engine.specs.Barred.{IsBarred};
+ghost use Rattle.raft_log_engine.specs.Caused.{IsCleaningCause};
 ghost use Rattle.raft_log_engine.specs.Left.{IsSound, answers_on, leaves_on};
 ghost use Rattle.raft_log_engine.specs.Reopened.{OpensAs, OpensInTail, StandsAlone, StandsInTail, directories_of_engine};
 ghost use Rattle.raft_log_engine.specs.Since.{HasWritten};
 ghost use Rattle.raft_log_engine.specs.Still.{IsStill};
 ghost use Rattle.raft_log_engine.specs.declared.fault.EngineFault.TheVariants.{Marked, Stopped};
 ghost use Rattle.raft_log_memtables.specs.MemTables.{content_in};
+ghost use Rattle.raft_log_pipe.specs.Caused.{IsRefusalOrMemory};
 ghost use Rattle.raft_log_pipe.specs.Pipe.{Holds, IsPipe, Numbered, first_of};
 ghost use Rattle.raft_log_pipes.specs.Kept.{KeepSettings};
 ghost use Rattle.raft_log_purge.specs.Due.{IsLarge};
@@ -46,6 +48,7 @@ fn sync_unsynced<F: FileSystem>(
     ensures needed { wrote_unsynced ≡ false → IsOk result }
     ensures set { KeepSettings pipes.old pipes.new }
     ensures later { RefusesNoMore (F.is_bounded files.old) (F.is_bounded files.new) (F.meter files.old) (F.meter files.new) }
+    ensures cause { IfErr result (λ e. IsRefusalOrMemory (F.meter files.old) (F.meter files.new) e) }
 {
     if !wrote_unsynced {
         return Ok(());
@@ -91,6 +94,7 @@ impl<F: FileSystem + Drop> Engine<F> {
         ensures barred { result ≡ Err Marked → IsBarred extent self.old }
         ensures stops { IfErr result (λ fault. (fault ≡ Marked) ⊎ (self.new.is_stopped ≡ true)) }
         ensures later { RefusesNoMore (F.is_bounded self.old.files) (F.is_bounded self.new.files) (F.meter self.old.files) (F.meter self.new.files) }
+        ensures cause { IfErr result (λ fault. IsCleaningCause (self.old.is_stopped ≡ true) (IsBarred extent self.old) (F.meter self.old.files) (F.meter self.new.files) fault) }
     {
         if self.is_stopped {
             return Err(EngineFault::Stopped);
@@ -153,6 +157,7 @@ impl<F: FileSystem + Drop> Engine<F> {
         ensures barred { result ≡ Err Marked → IsBarred All self.old }
         ensures stops { IfErr result (λ fault. (fault ≡ Marked) ⊎ (self.new.is_stopped ≡ true)) }
         ensures later { RefusesNoMore (F.is_bounded self.old.files) (F.is_bounded self.new.files) (F.meter self.old.files) (F.meter self.new.files) }
+        ensures cause { IfErr result (λ fault. IsCleaningCause (self.old.is_stopped ≡ true) (IsBarred All self.old) (F.meter self.old.files) (F.meter self.new.files) fault) }
     {
         match self.clean_by(Extent::All, barrier) {
             Ok(done) => Ok(done.went),
@@ -188,6 +193,7 @@ impl<F: FileSystem + Drop> Engine<F> {
         ensures barred { result ≡ Err Marked → IsBarred Rewrites self.old }
         ensures stops { IfErr result (λ fault. (fault ≡ Marked) ⊎ (self.new.is_stopped ≡ true)) }
         ensures later { RefusesNoMore (F.is_bounded self.old.files) (F.is_bounded self.new.files) (F.meter self.old.files) (F.meter self.new.files) }
+        ensures cause { IfErr result (λ fault. IsCleaningCause (self.old.is_stopped ≡ true) (IsBarred Rewrites self.old) (F.meter self.old.files) (F.meter self.new.files) fault) }
     {
         match self.clean_by(Extent::Rewrites, None) {
             Ok(_done) => Ok(()),
@@ -237,6 +243,7 @@ impl<F: FileSystem + Drop> Engine<F> {
         ensures stopped { self.old.is_stopped ≡ true → result ≡ Err Stopped }
         ensures stops { OnErr result (self.new.is_stopped ≡ true) }
         ensures later { RefusesNoMore (F.is_bounded self.old.files) (F.is_bounded self.new.files) (F.meter self.old.files) (F.meter self.new.files) }
+        ensures cause { IfErr result (λ fault. IsCleaningCause (self.old.is_stopped ≡ true) ⊥ (F.meter self.old.files) (F.meter self.new.files) fault) }
     {
         if self.is_stopped {
             return Err(EngineFault::Stopped);
@@ -295,6 +302,7 @@ impl<F: FileSystem + Drop> Engine<F> {
         ensures stopped { self.old.is_stopped ≡ true → result ≡ Err Stopped }
         ensures stops { OnErr result (self.new.is_stopped ≡ true) }
         ensures later { RefusesNoMore (F.is_bounded self.old.files) (F.is_bounded self.new.files) (F.meter self.old.files) (F.meter self.new.files) }
+        ensures cause { IfErr result (λ fault. IsCleaningCause (self.old.is_stopped ≡ true) ⊥ (F.meter self.old.files) (F.meter self.new.files) fault) }
     {
         self.purge_due(barrier, false)
     }

@@ -1,9 +1,8 @@
 //! An engine and a log whose files crash where they lie.
-ghost use Rattle.std.specs.Prelude.{◌≡◌, ℕ, List, true, OnOk, OnErr};
-ghost use Rattle.raft_log_disk.specs.Image.{Image, after_crash, image_of};
-ghost use Rattle.raft_log_disk.specs.MemorySystem.{disk_in};
+ghost use Rattle.std.specs.Prelude.{◌≡◌, ℕ, List, true, IfErr, OnOk, OnErr};
+ghost use Rattle.raft_log_disk.specs.MemorySystem.{disk_in, meter_in};
 ghost use Rattle.raft_log_disk.specs.Text.{Text};
-ghost use Rattle.raft_log_engine.specs.Log.{IsFoundBy, IsSameLog, leaves_of_log};
+ghost use Rattle.raft_log_engine.specs.Log.{AreCrashed, CantBeLeftSo, IsCrashedLog, IsFusedLog, IsSameLog, leaves_of_log, left_by};
 ghost use Rattle.raft_log_engine.specs.Reopened.{OpensInTail};
 ghost use Rattle.raft_log_memtables.specs.Content.{Content};
 ghost use Rattle.raft_log_recovery.specs.Crashed.{IsCrashed};
@@ -16,16 +15,14 @@ use raft_log_files::{CrashChoice, CrashFiles, CrashRefusal};
 impl<F: CrashFiles + Drop> Engine<F> {
     /// Leaves of the files what the choice says, as where a machine stops (own). The engine is stopped
     /// then, as after a write that failed. An opening that tolerates a torn tail refuses nothing then
-    /// that it wouldn't have refused before. After an `Err` the files have what they had, and nothing
-    /// else changed.
+    /// that it wouldn't have refused before. An `Err` says why the files can't be left so, and changes
+    /// nothing.
     pub fn crash(&mut self, choice: &CrashChoice) -> Result<(), CrashRefusal>
-        ensures crashed { OnOk result (IsCrashed (F.FileSystem.disk self.old.files) (image_of choice.now (F.FileSystem.disk self.old.files).names (F.FileSystem.disk self.old.files).file)
-            (F.FileSystem.disk self.new.files)) }
-        ensures chosen { OnOk result (F.FileSystem.disk self.new.files ≡ after_crash (F.FileSystem.disk self.old.files)
-            (image_of choice.now (F.FileSystem.disk self.old.files).names (F.FileSystem.disk self.old.files).file)) }
+        ensures crashed { OnOk result (IsCrashed (F.FileSystem.disk self.old.files) (left_by choice.now (F.FileSystem.disk self.old.files)) (F.FileSystem.disk self.new.files)) }
+        ensures chosen { OnOk result (AreCrashed F.FileSystem.disk F.FileSystem.meter self.old.files choice.now self.new.files) }
         ensures stops { OnOk result (self.new ≡ record self.old { files = self.new.files; is_stopped = true }) }
-        ensures err { OnErr result (F.FileSystem.disk self.new.files ≡ F.FileSystem.disk self.old.files) }
-        ensures same { OnErr result (self.new ≡ record self.old { files = self.new.files }) }
+        ensures why { IfErr result (λ why. CantBeLeftSo choice.now why (F.FileSystem.disk self.old.files)) }
+        ensures err { OnErr result (self.new ≡ self.old) }
         ensures in_tail { OnOk result ((directories : List Text) → OpensInTail directories (F.FileSystem.disk self.old.files) self.old.pipes
             → OpensInTail directories (F.FileSystem.disk self.new.files) self.new.pipes) }
     {
@@ -38,16 +35,13 @@ impl<F: CrashFiles + Drop> Engine<F> {
 impl MemoryLog {
     /// Leaves of the log's files what the choice says, as where a machine stops (own). The log takes no
     /// write any more: it is to be opened again. What an opening finds then was left by the log before.
-    /// After an `Err` the log is as it was, but that its files are others that have the same.
+    /// An `Err` says why the files can't be left so, and changes nothing.
     pub fn crash_files(&mut self, choice: &CrashChoice) -> Result<(), CrashRefusal>
-        ensures crashed { OnOk result ((image : Image) × IsCrashed (disk_in self.old.engine.files) image (disk_in self.new.engine.files)) }
-        ensures chosen { OnOk result (disk_in self.new.engine.files ≡ after_crash (disk_in self.old.engine.files)
-            (image_of choice.now (disk_in self.old.engine.files).names (disk_in self.old.engine.files).file)) }
+        ensures crashed { OnOk result (IsCrashedLog disk_in meter_in self.old choice.now self.new) }
         ensures fails { OnOk result (self.new.has_failed ≡ true) }
-        ensures found { OnOk result ((content : Content (List ℕ)) → IsFoundBy self.old.settings (disk_in self.new.engine.files) content → leaves_of_log disk_in self.old content) }
         ensures leaves { OnOk result ((content : Content (List ℕ)) → leaves_of_log disk_in self.new content → leaves_of_log disk_in self.old content) }
-        ensures settings { self.new.settings ≡ self.old.settings }
-        ensures err { OnErr result (IsSameLog disk_in self.old self.new) }
+        ensures why { IfErr result (λ why. CantBeLeftSo choice.now why (disk_in self.old.engine.files)) }
+        ensures err { OnErr result (self.new ≡ self.old) }
     {
         self.engine.crash(choice)?;
         self.has_failed = true;
@@ -58,6 +52,7 @@ impl MemoryLog {
     /// with none they refuse no call any more (own). The log is as it was, but that its files are
     /// others that have the same.
     pub fn fuse_files(&mut self, first_refused: Option<u64>)
+        ensures fused { IsFusedLog disk_in meter_in self.old first_refused self.new }
         ensures same { IsSameLog disk_in self.old self.new }
     {
         self.engine.set_fuse(first_refused);
@@ -69,20 +64,17 @@ impl CrashLog for MemoryLog {
 
     type Refusal = CrashRefusal;
 
-    ghost use Rattle.raft_log_disk.specs.MemorySystem.{disk_in};
-    ghost use Rattle.raft_log_engine.specs.Log.{CantBeLeftSo, IsCrashedLog};
+    ghost use Rattle.raft_log_disk.specs.MemorySystem.{disk_in, meter_in};
+    ghost use Rattle.raft_log_engine.specs.Log.{CantBeLeftSo, IsCrashedLog, IsFusedLog};
 
-    ghost crashed = { λ old new. IsCrashedLog disk_in old new };
+    ghost crashed = { λ old choice new. IsCrashedLog disk_in meter_in old choice new };
 
     ghost refuses = { λ log choice why. CantBeLeftSo choice why (disk_in log.engine.files) };
 
+    ghost fused = { λ old first new. IsFusedLog disk_in meter_in old first new };
+
     fn crash(&mut self, choice: &CrashChoice) -> Result<(), CrashRefusal> {
-        self.engine.files().may_crash(choice)?;
-        // Where memory is refused behind that, the files stay as reads see them, which is one of their
-        // images.
-        let _ = self.crash_files(choice);
-        self.has_failed = true;
-        Ok(())
+        self.crash_files(choice)
     }
 
     fn fuse(&mut self, first_refused: Option<u64>) {

@@ -1,7 +1,7 @@
 //! Listeners, who hear of writes and of files.
 ghost use Rattle.std.specs.Prelude.{◌≡◌, ◌⊎◌, ◌++◌, ◌∷◌, ℕ, List, [], true, false, Err, IfErr, IfOk, OnOk, OnErr};
 ghost use Rattle.raft_content_log.specs.Leaving.{AgreesElsewhere, IsWritten, LeavesElsewhere, MayBeWritten};
-ghost use Rattle.raft_log_disk.specs.Cause.{NothingRefuses, RefusesNoMore};
+ghost use Rattle.raft_log_disk.specs.Cause.{NothingRefuses, RefusesNoMore, Spends};
 ghost use Rattle.raft_log_engine.specs.Barred.{KeepsFound};
 ghost use Rattle.raft_log_engine.specs.Caused.{IsWriteFault};
 ghost use Rattle.raft_log_engine.specs.Hearing.{HearAppend, heard_files};
@@ -118,6 +118,7 @@ impl<F: FileSystem + Drop> Engine<F> {
         ensures later { RefusesNoMore (F.is_bounded self.old.files) (F.is_bounded self.new.files) (F.meter self.old.files) (F.meter self.new.files) }
         ensures taken { NothingRefuses (F.is_bounded self.old.files) (F.meter self.old.files) → IsWriteTaken F.disk self.old batch.old.items result }
         ensures cause { IfErr result (λ fault. IsWriteFault F.disk self.old batch.old.items (F.meter self.old.files) (F.meter self.new.files) fault) }
+        ensures spends { OnOk result (sync ≡ true → Spends (F.meter self.old.files) (F.meter self.new.files)) }
         ensures heard { (batch.old.items ≡ [] → ⊥) → OnOk result (HearAppend L.hears F.disk batch.old.items (λ id. Applied id ∷ []) self.old self.new listeners.old listeners.new) }
         ensures unheard { batch.old.items ≡ [] → listeners.new ≡ listeners.old }
         ensures err_heard { IfErr result (λ fault. (listeners.new ≡ listeners.old)

@@ -8,6 +8,7 @@ ghost use Rattle.raft_log_cleaner.specs.Told.{is_among, queue_of};
 ghost use Rattle.raft_log_cleaning.specs.declared.cleaning.Extent.TheVariants.{All};
 ghost use Rattle.raft_log_disk.specs.Cause.{RefusesNoMore};
 ghost use Rattle.raft_log_engine.specs.Barred.{IsBarred};
+ghost use Rattle.raft_log_engine.specs.Caused.{IsCleaningCause};
 ghost use Rattle.raft_log_engine.specs.Hearing.{heard_changes, heard_cleaning, span_of};
 ghost use Rattle.raft_log_engine.specs.Left.{IsSound, answers_on, leaves_on};
 ghost use Rattle.raft_log_engine.specs.Listening.{GoesToKept};
@@ -96,6 +97,7 @@ impl<F: FileSystem + Drop> Engine<F> {
         ensures later { RefusesNoMore (F.is_bounded self.old.files) (F.is_bounded self.new.files) (F.meter self.old.files) (F.meter self.new.files) }
         ensures heard { OnOk result (HearAll L.hears (heard_cleaning self.old.pipes self.new.pipes) listeners.old listeners.new) }
         ensures unheard { OnErr result (listeners.new ≡ listeners.old) }
+        ensures cause { IfErr result (λ fault. IsCleaningCause (self.old.is_stopped ≡ true) ⊥ (F.meter self.old.files) (F.meter self.new.files) fault) }
     {
         let barrier = least_kept(listeners, LogQueue::Append);
         let is_held = least_kept(listeners, LogQueue::Rewrite).is_some();
@@ -142,6 +144,7 @@ impl<F: FileSystem + Drop> Engine<F> {
         ensures later { RefusesNoMore (F.is_bounded self.old.files) (F.is_bounded self.new.files) (F.meter self.old.files) (F.meter self.new.files) }
         ensures heard { OnOk result (HearAll L.hears (heard_cleaning self.old.pipes self.new.pipes) listeners.old listeners.new) }
         ensures unheard { OnErr result (listeners.new ≡ listeners.old) }
+        ensures cause { IfErr result (λ fault. IsCleaningCause (self.old.is_stopped ≡ true) (IsBarred All self.old) (F.meter self.old.files) (F.meter self.new.files) fault) }
     {
         let barrier = least_kept(listeners, LogQueue::Append);
         let appends = self.pipes.file_span(LogQueue::Append);

@@ -14,12 +14,13 @@ ghost use Rattle.raft_log_engine.specs.Caused.{IsSyncFault};
 ghost use Rattle.raft_log_engine.specs.declared.fault.EngineFault.TheVariants as engine_fault;
 ghost use Rattle.raft_log_engine.specs.Closing.{handed_back};
 ghost use Rattle.raft_log_engine.specs.Left.{answers_on};
-ghost use Rattle.raft_log_engine.specs.Log.{IsFoundBy, leaves_of_log, main_directory};
+ghost use Rattle.raft_log_engine.specs.Log.{AreCrashed, AreFused, CantBeLeftSo, IsFoundBy, leaves_of_log, left_by, main_directory};
 ghost use Rattle.raft_log_engine.specs.Opening.{AreSetAs, CantBeOpened, HasHolesIn, IsLeftByOpening};
 ghost use Rattle.raft_log_engine.specs.Reopened.{OpensInTail};
 ghost use Rattle.raft_log_engine.specs.Unopened.{IsOpeningFault, IsUnopenable};
 ghost use Rattle.raft_log_files.specs.declared.error.CorruptionFault.{CorruptionFault};
 ghost use Rattle.raft_log_files.specs.declared.error.Error.TheVariants.{Corruption};
+ghost use Rattle.raft_log_files.specs.declared.recovery.RecoveryMode.TheVariants.{TolerateTailCorruption};
 ghost use Rattle.raft_log_files.specs.Settings.{settings_fault, settings_of};
 ghost use Rattle.raft_log_memtables.specs.Content.{Content, nothing};
 ghost use Rattle.raft_log_pipe.specs.Alone.{IsOnce, Names};
@@ -35,6 +36,7 @@ use crate::opening::{NotClosed, NotOpened};
 use raft_content_log::ContentLog;
 use raft_log_files::{
     Config, CrashChoice, CrashFiles, CrashRefusal, Error, MemoryFileSystem, RecoveryConfig,
+    RecoveryMode,
 };
 use raft_log_pipe::File;
 use raft_log_records::LogBatch;
@@ -80,23 +82,26 @@ impl Model for MemoryLog {
     ghost invariant = { λ l. IsLog disk_in l.engine l.settings l.has_failed };
 }
 
-/// A copy of the settings, with the main directory alone.
+/// A copy of the settings, with the main directory alone. A torn tail is tolerated, whatever they say:
+/// a crash may leave one.
 fn in_one_directory(settings: &Config) -> Result<Config, AllocError>
     ensures directories { IfOk result (λ config. directories_of (settings_of config) ≡ main_directory settings.now) }
-    ensures mode { IfOk result (λ config. config.recovery_mode ≡ settings.now.recovery_mode) }
+    ensures mode { IfOk result (λ config. config.recovery_mode ≡ TolerateTailCorruption) }
     ensures sizes { IfOk result (λ config. (config.target_file_size ≡ settings.now.target_file_size) × (config.format_version ≡ settings.now.format_version)) }
     ensures fault { IfOk result (λ config. settings_fault (settings_of config) ≡ settings_fault (settings_of settings.now)) }
     ensures once { IfOk result (λ config. (names : Names) (queue : LogQueue) → IsOnce names (directories_of (settings_of config)) queue) }
 {
     let mut config = settings.clone()?;
     config.spill_dir = None;
+    config.recovery_mode = RecoveryMode::TolerateTailCorruption;
     Ok(config)
 }
 
 impl LogFiles {
-    /// No files yet, where an opening finds nothing (own).
+    /// No files yet, where an opening finds nothing, and no call is refused (own).
     pub fn new(alloc: Global, settings: Config) -> LogFiles
         ensures settings { result.settings ≡ settings }
+        ensures free { NothingRefuses (is_bounded_in result.files) (meter_in result.files) }
         ensures none { (content : Content (List ℕ)) → IsFoundBy result.settings (disk_in result.files) content → content ≡ nothing }
     {
         LogFiles {
@@ -105,10 +110,13 @@ impl LogFiles {
         }
     }
 
-    /// Leaves of the files what the choice says, as where a machine stops (own).
+    /// Leaves of the files what the choice says, as where a machine stops (own). An `Err` says why they
+    /// can't be left so, and changes nothing.
     pub fn crash(&mut self, choice: &CrashChoice) -> Result<(), CrashRefusal>
-        ensures crashed { OnOk result ((image : Image) × IsCrashed (disk_in self.old.files) image (disk_in self.new.files)) }
-        ensures err { OnErr result (disk_in self.new.files ≡ disk_in self.old.files) }
+        ensures crashed { OnOk result (IsCrashed (disk_in self.old.files) (left_by choice.now (disk_in self.old.files)) (disk_in self.new.files)) }
+        ensures chosen { OnOk result (AreCrashed disk_in meter_in self.old.files choice.now self.new.files) }
+        ensures why { IfErr result (λ why. CantBeLeftSo choice.now why (disk_in self.old.files)) }
+        ensures err { OnErr result (self.new ≡ self.old) }
         ensures settings { self.new.settings ≡ self.old.settings }
     {
         self.files.crash(choice)
@@ -117,7 +125,7 @@ impl LogFiles {
     /// Lets the files refuse each changing call from this one on, the first one counted as 1; with
     /// none they refuse no call any more (own). Nothing else changes.
     pub fn fuse(&mut self, first_refused: Option<u64>)
-        ensures disk { disk_in self.new.files ≡ disk_in self.old.files }
+        ensures fused { AreFused disk_in meter_in self.old.files first_refused self.new.files }
         ensures settings { self.new.settings ≡ self.old.settings }
     {
         self.files.fuse(first_refused);
@@ -151,19 +159,19 @@ impl MemoryLog {
         ensures opens_in_tail { IfOk result (λ l. OpensInTail (main_directory l.settings) (disk_in l.engine.files) l.engine.pipes) }
         ensures settings { IfOk result (λ l. l.settings ≡ files.settings) }
         ensures set { IfOk result (λ l. AreSetAs (settings_of files.settings) l.engine.pipes) }
-        ensures holes { IfOk result (λ l. HasHolesIn files.settings.recovery_mode (disk_in l.engine.files) l.engine.pipes) }
+        ensures holes { IfOk result (λ l. HasHolesIn TolerateTailCorruption (disk_in l.engine.files) l.engine.pipes) }
         ensures refused { IfErr result (λ refused. refused.files.settings ≡ files.settings) }
-        ensures err { IfErr result (λ refused. IsLeftByOpening files.settings.recovery_mode (main_directory files.settings) (disk_in files.files) (disk_in refused.files.files)) }
+        ensures err { IfErr result (λ refused. IsLeftByOpening TolerateTailCorruption (main_directory files.settings) (disk_in files.files) (disk_in refused.files.files)) }
         ensures reads { IfErr result (λ refused. (content : Content (List ℕ)) → IsFoundBy files.settings (disk_in refused.files.files) content
             → IsFoundBy files.settings (disk_in files.files) content) }
         ensures corrupt { IfErr result (λ refused. (f : CorruptionFault) → refused.fault ≡ engine_fault.Log (Corruption f)
-            → (queue : LogQueue) × CantBeOpened files.settings.recovery_mode (main_directory files.settings) queue (disk_in files.files)) }
+            → (queue : LogQueue) × CantBeOpened TolerateTailCorruption (main_directory files.settings) queue (disk_in files.files)) }
         ensures later { MatchResult result (λ l. RefusesNoMore (is_bounded_in files.files) (is_bounded_in l.engine.files) (meter_in files.files) (meter_in l.engine.files))
             (λ refused. RefusesNoMore (is_bounded_in files.files) (is_bounded_in refused.files.files) (meter_in files.files) (meter_in refused.files.files)) }
-        ensures cause { IfErr result (λ refused. IsOpeningFault (settings_fault (settings_of files.settings)) files.settings.recovery_mode (main_directory files.settings)
+        ensures cause { IfErr result (λ refused. IsOpeningFault (settings_fault (settings_of files.settings)) TolerateTailCorruption (main_directory files.settings)
             (disk_in files.files) (disk_in refused.files.files) (is_bounded_in files.files) (meter_in files.files) (meter_in refused.files.files) refused.fault) }
         ensures taken { NothingRefuses (is_bounded_in files.files) (meter_in files.files) → IfErr result (λ refused. IsUnopenable (settings_fault (settings_of files.settings))
-            files.settings.recovery_mode (main_directory files.settings) (disk_in files.files) (disk_in refused.files.files) refused.fault) }
+            TolerateTailCorruption (main_directory files.settings) (disk_in files.files) (disk_in refused.files.files) refused.fault) }
     {
         let LogFiles { settings, files } = files;
         let Ok(config) = in_one_directory(&settings) else {
@@ -254,7 +262,7 @@ impl ContentLog for MemoryLog {
     ghost use Rattle.raft_log_disk.specs.MemorySystem.{disk_in, is_bounded_in, meter_in};
     ghost use Rattle.raft_log_engine.specs.Left.{answers_on};
     ghost use Rattle.raft_log_engine.specs.Log.{leaves_of_log};
-    ghost use Rattle.raft_log_engine.specs.Met.{Meets, meets_later, meets_none};
+    ghost use Rattle.raft_log_engine.specs.Met.{IsMisuse, Meets, meets_later, meets_none};
 
     ghost is_sound = { λ l. l.has_failed ≡ false };
 
@@ -262,11 +270,13 @@ impl ContentLog for MemoryLog {
 
     ghost leaves = { λ l content. leaves_of_log disk_in l content };
 
-    ghost meets = { λ old new met. Meets is_bounded_in meter_in old new met };
+    ghost meets = { λ old new met. Meets disk_in is_bounded_in meter_in old new met };
 
-    ghost meets_none = { λ x. meets_none is_bounded_in meter_in x };
+    ghost is_misuse = { λ fault. IsMisuse fault };
 
-    ghost meets_later = { λ x y z met first second. meets_later is_bounded_in meter_in x y z met first second };
+    ghost meets_none = { λ x. meets_none disk_in is_bounded_in meter_in x };
+
+    ghost meets_later = { λ x y z met first second. meets_later disk_in is_bounded_in meter_in x y z met first second };
 
     fn write(&mut self, batch: &mut LogBatch) -> Result<(), EngineFault> {
         if self.has_failed {

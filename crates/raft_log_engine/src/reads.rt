@@ -6,6 +6,7 @@ ghost use Rattle.std.specs.Ordering.{nat_cmp, eq_by_cmp};
 ghost use Rattle.std.specs.Set.{is_member};
 ghost use Rattle.raft_log_engine.specs.Caused.{IsGetFault};
 ghost use Rattle.raft_log_engine.specs.Left.{answers_on};
+ghost use Rattle.raft_log_engine.specs.Log.{AreFused};
 ghost use Rattle.raft_log_engine.specs.Reads.{IsMessageFault, IsRead, IsStopped, IsTableFault, used_by};
 ghost use Rattle.raft_log_engine.specs.Reopened.{OpensInTail, StandsAlone, directories_of_engine};
 ghost use Rattle.raft_log_engine.specs.Since.{HasWritten};
@@ -169,8 +170,7 @@ impl<F: CrashFiles + Drop> Engine<F> {
     /// Lets the files refuse from that changing call on, the first one counted as 1; with none they
     /// refuse no call (own). It changes nothing else.
     pub fn set_fuse(&mut self, first_refused: Option<u64>)
-        ensures disk { F.FileSystem.disk self.new.files ≡ F.FileSystem.disk self.old.files }
-        ensures calls { (F.FileSystem.meter self.new.files).calls_left ≡ option_map (λ n. n - 1) first_refused }
+        ensures fused { AreFused F.FileSystem.disk F.FileSystem.meter self.old.files first_refused self.new.files }
         ensures same { self.new ≡ record self.old { files = self.new.files } }
     {
         self.files.fuse(first_refused);

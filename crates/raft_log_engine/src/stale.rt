@@ -6,6 +6,7 @@ ghost use Rattle.raft_log_cleaning.specs.Extents.{HasNewRewrites};
 ghost use Rattle.raft_log_cleaning.specs.declared.cleaning.Extent.TheVariants.{Stale};
 ghost use Rattle.raft_log_disk.specs.Cause.{RefusesNoMore};
 ghost use Rattle.raft_log_engine.specs.Barred.{IsBarred};
+ghost use Rattle.raft_log_engine.specs.Caused.{IsCleaningCause};
 ghost use Rattle.raft_log_engine.specs.Left.{IsSound, answers_on, leaves_on};
 ghost use Rattle.raft_log_engine.specs.Reopened.{OpensAs, OpensInTail, StandsAlone, StandsInTail, directories_of_engine};
 ghost use Rattle.raft_log_engine.specs.Since.{HasWritten};
@@ -52,6 +53,7 @@ impl<F: FileSystem + Drop> Engine<F> {
         ensures barred { result ≡ Err Marked → IsBarred Stale self.old }
         ensures stops { IfErr result (λ fault. (fault ≡ Marked) ⊎ (self.new.is_stopped ≡ true)) }
         ensures later { RefusesNoMore (F.is_bounded self.old.files) (F.is_bounded self.new.files) (F.meter self.old.files) (F.meter self.new.files) }
+        ensures cause { IfErr result (λ fault. IsCleaningCause (self.old.is_stopped ≡ true) (IsBarred Stale self.old) (F.meter self.old.files) (F.meter self.new.files) fault) }
     {
         match self.clean_by(Extent::Stale, barrier) {
             Ok(done) => Ok(done.went),

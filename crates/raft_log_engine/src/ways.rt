@@ -11,6 +11,7 @@ ghost use Rattle.raft_log_engine.specs.Unopened.{IsOpeningFault, IsUnopenable};
 ghost use Rattle.raft_log_memtables.specs.Content.{Content, nothing};
 ghost use Rattle.raft_log_pipe.specs.Alone.{IsOnce};
 ghost use Rattle.raft_log_records.specs.declared.file_id.LogQueue.{LogQueue};
+ghost use Rattle.raft_log_files.specs.declared.recovery.RecoveryMode.TheVariants.{TolerateTailCorruption};
 ghost use Rattle.raft_log_files.specs.Settings.{sanitized, settings_fault, settings_of};
 ghost use Rattle.raft_log_files.specs.declared.error.CorruptionFault.{CorruptionFault};
 ghost use Rattle.raft_log_files.specs.declared.error.Error.TheVariants.{Corruption, Other};
@@ -173,9 +174,9 @@ impl<F: FileSystem + Drop> Engine<F> {
 
 impl MemoryLog {
     /// Opens the log with the files that are there, or makes its first one (own). What the files read
-    /// as is what it answers, and what a crash leaves. A fault in a file is cut away or refused, as
-    /// `recovery_mode` says. A refusal hands the files back: what an opening finds of them as they are
-    /// it might have found of those before.
+    /// as is what it answers, and what a crash leaves. Whatever mode the settings name, a torn tail is cut
+    /// away, and any other fault in a file refused. A refusal hands the files back: what an opening finds
+    /// of them as they are it might have found of those before.
     pub fn open(alloc: Global, files: LogFiles) -> Result<MemoryLog, NotOpened<LogFiles>>
         ensures sound { IfOk result (λ l. l.has_failed ≡ false) }
         ensures answers { IfOk result (λ l. IsFoundBy files.settings (disk_in files.files) (answers_on disk_in l.engine)) }
@@ -183,19 +184,19 @@ impl MemoryLog {
         ensures opens_in_tail { IfOk result (λ l. OpensInTail (main_directory l.settings) (disk_in l.engine.files) l.engine.pipes) }
         ensures settings { IfOk result (λ l. l.settings ≡ files.settings) }
         ensures set { IfOk result (λ l. AreSetAs (settings_of files.settings) l.engine.pipes) }
-        ensures holes { IfOk result (λ l. HasHolesIn files.settings.recovery_mode (disk_in l.engine.files) l.engine.pipes) }
+        ensures holes { IfOk result (λ l. HasHolesIn TolerateTailCorruption (disk_in l.engine.files) l.engine.pipes) }
         ensures refused { IfErr result (λ refused. refused.files.settings ≡ files.settings) }
-        ensures err { IfErr result (λ refused. IsLeftByOpening files.settings.recovery_mode (main_directory files.settings) (disk_in files.files) (disk_in refused.files.files)) }
+        ensures err { IfErr result (λ refused. IsLeftByOpening TolerateTailCorruption (main_directory files.settings) (disk_in files.files) (disk_in refused.files.files)) }
         ensures reads { IfErr result (λ refused. (content : Content (List ℕ)) → IsFoundBy files.settings (disk_in refused.files.files) content
             → IsFoundBy files.settings (disk_in files.files) content) }
         ensures corrupt { IfErr result (λ refused. (f : CorruptionFault) → refused.fault ≡ engine_fault.Log (Corruption f)
-            → (queue : LogQueue) × CantBeOpened files.settings.recovery_mode (main_directory files.settings) queue (disk_in files.files)) }
+            → (queue : LogQueue) × CantBeOpened TolerateTailCorruption (main_directory files.settings) queue (disk_in files.files)) }
         ensures later { MatchResult result (λ l. RefusesNoMore (is_bounded_in files.files) (is_bounded_in l.engine.files) (meter_in files.files) (meter_in l.engine.files))
             (λ refused. RefusesNoMore (is_bounded_in files.files) (is_bounded_in refused.files.files) (meter_in files.files) (meter_in refused.files.files)) }
-        ensures cause { IfErr result (λ refused. IsOpeningFault (settings_fault (settings_of files.settings)) files.settings.recovery_mode (main_directory files.settings)
+        ensures cause { IfErr result (λ refused. IsOpeningFault (settings_fault (settings_of files.settings)) TolerateTailCorruption (main_directory files.settings)
             (disk_in files.files) (disk_in refused.files.files) (is_bounded_in files.files) (meter_in files.files) (meter_in refused.files.files) refused.fault) }
         ensures taken { NothingRefuses (is_bounded_in files.files) (meter_in files.files) → IfErr result (λ refused. IsUnopenable (settings_fault (settings_of files.settings))
-            files.settings.recovery_mode (main_directory files.settings) (disk_in files.files) (disk_in refused.files.files) refused.fault) }
+            TolerateTailCorruption (main_directory files.settings) (disk_in files.files) (disk_in refused.files.files) refused.fault) }
     {
         MemoryLog::open_by(
             &|builder: &DualPipesBuilder, files: &mut MemoryFileSystem, config: &RecoveryConfig, machine: &mut TracedReplay| -> Result<
@@ -224,19 +225,19 @@ impl MemoryLog {
         ensures opens_in_tail { IfOk result (λ l. OpensInTail (main_directory l.settings) (disk_in l.engine.files) l.engine.pipes) }
         ensures settings { IfOk result (λ l. l.settings ≡ files.settings) }
         ensures set { IfOk result (λ l. AreSetAs (settings_of files.settings) l.engine.pipes) }
-        ensures holes { IfOk result (λ l. HasHolesIn files.settings.recovery_mode (disk_in l.engine.files) l.engine.pipes) }
+        ensures holes { IfOk result (λ l. HasHolesIn TolerateTailCorruption (disk_in l.engine.files) l.engine.pipes) }
         ensures refused { IfErr result (λ refused. refused.files.settings ≡ files.settings) }
-        ensures err { IfErr result (λ refused. IsLeftByOpening files.settings.recovery_mode (main_directory files.settings) (disk_in files.files) (disk_in refused.files.files)) }
+        ensures err { IfErr result (λ refused. IsLeftByOpening TolerateTailCorruption (main_directory files.settings) (disk_in files.files) (disk_in refused.files.files)) }
         ensures reads { IfErr result (λ refused. (content : Content (List ℕ)) → IsFoundBy files.settings (disk_in refused.files.files) content
             → IsFoundBy files.settings (disk_in files.files) content) }
         ensures corrupt { IfErr result (λ refused. (f : CorruptionFault) → refused.fault ≡ engine_fault.Log (Corruption f)
-            → (queue : LogQueue) × CantBeOpened files.settings.recovery_mode (main_directory files.settings) queue (disk_in files.files)) }
+            → (queue : LogQueue) × CantBeOpened TolerateTailCorruption (main_directory files.settings) queue (disk_in files.files)) }
         ensures later { MatchResult result (λ l. RefusesNoMore (is_bounded_in files.files) (is_bounded_in l.engine.files) (meter_in files.files) (meter_in l.engine.files))
             (λ refused. RefusesNoMore (is_bounded_in files.files) (is_bounded_in refused.files.files) (meter_in files.files) (meter_in refused.files.files)) }
-        ensures cause { IfErr result (λ refused. IsOpeningFault (settings_fault (settings_of files.settings)) files.settings.recovery_mode (main_directory files.settings)
+        ensures cause { IfErr result (λ refused. IsOpeningFault (settings_fault (settings_of files.settings)) TolerateTailCorruption (main_directory files.settings)
             (disk_in files.files) (disk_in refused.files.files) (is_bounded_in files.files) (meter_in files.files) (meter_in refused.files.files) refused.fault) }
         ensures taken { NothingRefuses (is_bounded_in files.files) (meter_in files.files) → IfErr result (λ refused. IsUnopenable (settings_fault (settings_of files.settings))
-            files.settings.recovery_mode (main_directory files.settings) (disk_in files.files) (disk_in refused.files.files) refused.fault) }
+            TolerateTailCorruption (main_directory files.settings) (disk_in files.files) (disk_in refused.files.files) refused.fault) }
     {
         MemoryLog::open_by(
             &|builder: &DualPipesBuilder, files: &mut MemoryFileSystem, config: &RecoveryConfig, machine: &mut TracedReplay| -> Result<

@@ -3,7 +3,7 @@
 ghost use Rattle.std.specs.Prelude.{◌≡◌, ◌⊎◌, ◌+◌, ◌-◌, ◌<◌, ◌≤◌, ◌^◌, ◌++◌, min, max, ℕ, List, [], length, take, IfOk, OnOk, OnErr, IsErrOf, IsTrue};
 ghost use Rattle.raft_log_disk.specs.declared.fault.IoFault.TheVariants.{NotFound, NoSpace, Refused};
 ghost use Rattle.raft_log_disk.specs.Disk.{Disk, IsNoFile, with_file, after_sync};
-ghost use Rattle.raft_log_disk.specs.Cause.{IsTaken, Lacks, NothingRefuses, RefusesNoMore, UnlessRefused, lacked};
+ghost use Rattle.raft_log_disk.specs.Cause.{IsTaken, Lacks, NothingRefuses, RefusesNoMore, Spends, UnlessRefused, lacked};
 ghost use Rattle.raft_log_disk.specs.Format.{IsSpellable, header_len, spelled_header};
 ghost use Rattle.raft_log_file.specs.Writer.{IsWriter, IsReady, IsAppended, IsCut, IsOpened, IsClosed, IsCounted};
 
@@ -109,6 +109,7 @@ impl LogFileWriter {
         ensures not_found { IsErrOf result NotFound → IsNoFile (F.disk files.old) self.now.fd.0 }
         ensures later { RefusesNoMore (F.is_bounded files.old) (F.is_bounded files.new) (F.meter files.old) (F.meter files.new) }
         ensures taken { NothingRefuses (F.is_bounded files.old) (F.meter files.old) → IsTaken (IsNoFile (F.disk files.old) self.now.fd.0) ⊥ result }
+        ensures spends { OnOk result (Spends (F.meter files.old) (F.meter files.new)) }
     {
         files.sync(self.fd)
     }

@@ -1,13 +1,15 @@
-//! A directory is opened: it is locked, and its log files are loaded.
-ghost use Rattle.std.specs.Prelude.{◌≡◌, IfOk, false};
+//! A directory is opened: it is locked, and its log files and those kept for reuse are loaded.
+ghost use Rattle.std.specs.Prelude.{◌≡◌, ◌≢◌, ℕ, IfOk, IsNone, false};
+ghost use Rattle.raft_log_files.specs.FileName.{IsFileSeq, log_file_name, reserved_name};
+ghost use Rattle.raft_log_records.specs.declared.file_id.FileId.{FileId};
 ghost use Rattle.raft_log_host.specs.Loading.{HasOnlyLoaded};
 ghost use Rattle.raft_log_host.specs.Mirror.{Replays, host_disk};
 
 use crate::files::HostFileSystem;
 use crate::host::Host;
 use raft_log_disk::{FileSystem, IoFault, MemoryFileSystem};
-use raft_log_files::FileNameExt;
-use raft_log_records::FileId;
+use raft_log_files::{FileNameExt, parse_reserved_file_name};
+use raft_log_records::{FileId, LogQueue};
 use std::alloc::{AllocError, Global};
 use std::fs::{OpenOptions, TryLockError};
 use std::io::{ErrorKind, Read};
@@ -90,13 +92,28 @@ fn claim(rt: &HostRuntime, directory: &str, file: &fs::File, owner: u64) -> Resu
     Ok(())
 }
 
-// The names of the log files in the directory, rising. Others are passed over.
+// The file of a name: a log file, or one that is kept for reuse. Such a file is loaded by the pieces
+// of an append file of its number. Which pieces these are doesn't matter: no bytes of it are read as
+// records. With a log file's name it gets a header under which they have a foreign signature.
+fn file_of(name: &str) -> Option<FileId>
+    ensures logs { IsNone result → (id : FileId) → IsFileSeq id.seq → log_file_name id ≢ name.now }
+    ensures reserved { IsNone result → (n : ℕ) → IsFileSeq n → reserved_name n ≢ name.now }
+{
+    if let Some(id) = FileId::parse_file_name(name) {
+        return Some(id);
+    }
+    let seq = parse_reserved_file_name(name)?;
+    Some(FileId::new(LogQueue::Append, seq))
+}
+
+// The names of the log files in the directory and of those kept for reuse, rising. Others are
+// passed over.
 fn log_names(rt: &HostRuntime, directory: &str) -> io::Result<Vec<String>> {
     let mut names = Vec::new(rt.alloc());
     for entry in fs::read_dir(rt, directory)? {
         match entry {
             Ok(entry) => {
-                if FileId::parse_file_name(entry.file_name()).is_some() {
+                if file_of(entry.file_name()).is_some() {
                     names.push(String::from_str(rt.alloc(), entry.file_name())?)?;
                 }
             }
@@ -109,13 +126,13 @@ fn log_names(rt: &HostRuntime, directory: &str) -> io::Result<Vec<String>> {
 }
 
 impl HostFileSystem {
-    // The directory and its log files come into memory.
+    // The directory comes into memory, with its log files and those kept for reuse.
     fn load_all(&mut self, alloc: Global, directory: &str, names: &[String]) -> Result<(), IoFault>
         ensures loads { HasOnlyLoaded self.old.events → HasOnlyLoaded self.new.events }
     {
         self.make_dir(directory)?;
         for name in names {
-            if let Some(id) = FileId::parse_file_name(name.as_str()) {
+            if let Some(id) = file_of(name.as_str()) {
                 let path = format!(in alloc; "{directory}/{name}")?;
                 self.load(alloc, path.as_str(), id)?;
             }
@@ -123,9 +140,10 @@ impl HostFileSystem {
         Ok(())
     }
 
-    /// The files of a directory, which belongs to this node alone and is locked (own). It is made, if it
-    /// is not there. Each log file is synced before it is read, so that what reads see is on the disk. No
-    /// file that is there is changed, and those of other names are passed over.
+    /// The files of a directory, which belongs to this node alone and is locked (own). It is made, if
+    /// it is not there. Log files are loaded, and files that are kept for reuse. Each is synced before
+    /// it is read, so that what reads see is on the disk. No file that is there is changed, and those
+    /// of other names are passed over.
     pub fn open(rt: HostRuntime, directory: &str, owner: u64) -> Result<HostFileSystem, OpenError>
         ensures sound { IfOk result (λ f. f.has_failed ≡ false) }
         ensures mirror { IfOk result (λ f. Replays f.events (host_disk f)) }

@@ -5,3 +5,4 @@ pub mod Whole
 pub mod Standing
 pub mod Opened
 pub mod Mapped
+pub mod Caused

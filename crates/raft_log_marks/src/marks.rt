@@ -2,11 +2,14 @@
 
 ghost use Rattle.std.specs.Prelude.{◌≡◌, ◌≤◌, ◌++◌, ◌∷◌, [], map, OnOk, IfOk, IfErr};
 ghost use Rattle.raft_log_records.specs.Item.Change.{clean, compact, delete};
+ghost use Rattle.raft_log_records.specs.declared.error.RecordError.TheVariants.{Memory};
 ghost use Rattle.raft_log_covers.specs.Marks.{of_group, deletes};
 ghost use Rattle.raft_log_traces.specs.Traces.{trace_in};
+ghost use Rattle.raft_log_marks.specs.Caused.{IsMarkFault};
 ghost use Rattle.raft_log_marks.specs.GroupMarks.{marks_of};
+ghost use Rattle.raft_log_marks.specs.declared.marks.MarkError.TheVariants.{Record};
 
-use raft_log_records::{Command, LogBatch, RecordError, RecordFault};
+use raft_log_records::{Command, LogBatch, RecordError};
 use raft_log_traces::GroupTrace;
 use std::alloc::{AllocError, AllocFailed, Global};
 use thiserror::Error;
@@ -14,34 +17,44 @@ use thiserror::Error;
 /// Why a group's marks aren't written (own).
 #[derive(Clone, Copy, Debug, PartialEq, Eq, Error)]
 pub enum MarkError {
-    /// The batch would be too long, memory is missing, or a deleted key has no bytes.
+    /// The batch would be too long, or memory is missing.
     #[error("{0}")]
     Record(RecordError),
+    /// A deleted key has no bytes: no record has such a key.
+    #[error("a deleted key has no bytes")]
+    EmptyKey,
     /// The group has no entry, and had one at the greatest index: no `Compact` goes past that.
     #[error("no mark goes past the greatest index")]
     PastGreatestIndex,
 }
 
 impl From<RecordError> for MarkError {
+    ghost from_gives = { λ error e. e ≡ Record error };
+
     fn from(e: RecordError) -> MarkError {
         MarkError::Record(e)
     }
 }
 
 impl From<AllocError> for MarkError {
+    ghost from_gives = { λ _ e. e ≡ Record Memory };
+
     fn from(_e: AllocError) -> MarkError {
         MarkError::Record(RecordError::Memory)
     }
 }
 
 impl<T: Drop> From<AllocFailed<T>> for MarkError {
+    ghost from_gives = { λ _ e. e ≡ Record Memory };
+
     fn from(_e: AllocFailed<T>) -> MarkError {
         MarkError::Record(RecordError::Memory)
     }
 }
 
 fn add_clean(batch: &mut LogBatch, raft_group_id: u64) -> Result<(), MarkError>
-    ensures { OnOk result (batch.new.items ≡ batch.old.items ++ of_group raft_group_id (clean ∷ [])) }
+    ensures added { OnOk result (batch.new.items ≡ batch.old.items ++ of_group raft_group_id (clean ∷ [])) }
+    ensures cause { IfErr result IsMarkFault }
 {
     batch.add_command(raft_group_id, Command::Clean)?;
     Ok(())
@@ -49,7 +62,8 @@ fn add_clean(batch: &mut LogBatch, raft_group_id: u64) -> Result<(), MarkError>
 
 /// The index that a `Compact` names.
 fn compact_index(low: u128) -> Result<u64, MarkError>
-    ensures { IfOk result (λ index. index ≡ low) }
+    ensures is { IfOk result (λ index. index ≡ low) }
+    ensures cause { IfErr result IsMarkFault }
 {
     if low > u64::MAX as u128 {
         return Err(MarkError::PastGreatestIndex);
@@ -58,7 +72,8 @@ fn compact_index(low: u128) -> Result<u64, MarkError>
 }
 
 fn add_compact(batch: &mut LogBatch, raft_group_id: u64, low: u128) -> Result<(), MarkError>
-    ensures { OnOk result (batch.new.items ≡ batch.old.items ++ of_group raft_group_id (compact low ∷ [])) }
+    ensures added { OnOk result (batch.new.items ≡ batch.old.items ++ of_group raft_group_id (compact low ∷ [])) }
+    ensures cause { IfErr result IsMarkFault }
 {
     let index = compact_index(low)?;
     batch.add_command(raft_group_id, Command::Compact { index })?;
@@ -71,10 +86,11 @@ fn add_delete(
     raft_group_id: u64,
     name: &[u8],
 ) -> Result<(), MarkError>
-    ensures { OnOk result (batch.new.items ≡ batch.old.items ++ of_group raft_group_id (delete name.now ∷ [])) }
+    ensures added { OnOk result (batch.new.items ≡ batch.old.items ++ of_group raft_group_id (delete name.now ∷ [])) }
+    ensures cause { IfErr result IsMarkFault }
 {
     if name.is_empty() {
-        return Err(MarkError::Record(RecordError::Corruption(RecordFault::EmptyKey)));
+        return Err(MarkError::EmptyKey);
     }
     let key = Vec::from_slice(alloc, name)?;
     batch.delete(raft_group_id, key)?;
@@ -87,7 +103,8 @@ fn add_deletes(
     raft_group_id: u64,
     names: &[&[u8]],
 ) -> Result<(), MarkError>
-    ensures { OnOk result (batch.new.items ≡ batch.old.items ++ of_group raft_group_id (deletes (map (λ n. n.now) names.now))) }
+    ensures added { OnOk result (batch.new.items ≡ batch.old.items ++ of_group raft_group_id (deletes (map (λ n. n.now) names.now))) }
+    ensures cause { IfErr result IsMarkFault }
 {
     for name in names {
         add_delete(alloc, batch, raft_group_id, name)?;
@@ -102,8 +119,9 @@ fn add_removals(
     raft_group_id: u64,
     trace: &GroupTrace,
 ) -> Result<(), MarkError>
-    ensures { OnOk result (batch.new.items
+    ensures added { OnOk result (batch.new.items
         ≡ batch.old.items ++ of_group raft_group_id (compact (trace_in trace.now).low ∷ deletes (trace_in trace.now).deleted)) }
+    ensures cause { IfErr result IsMarkFault }
 {
     add_compact(batch, raft_group_id, trace.low())?;
     let names = trace.deleted(alloc)?;
@@ -122,7 +140,8 @@ pub fn add_marks(
     is_there: bool,
     trace: &GroupTrace,
 ) -> Result<(), MarkError>
-    ensures { OnOk result (batch.new.items ≡ batch.old.items ++ of_group raft_group_id (marks_of is_there (trace_in trace.now))) }
+    ensures added { OnOk result (batch.new.items ≡ batch.old.items ++ of_group raft_group_id (marks_of is_there (trace_in trace.now))) }
+    ensures cause { IfErr result IsMarkFault }
 {
     if !is_there {
         return add_clean(batch, raft_group_id);

@@ -1,7 +1,7 @@
 //! A pipe, and what it tells of its files.
 
 ghost use Rattle.std.specs.Prelude.{◌≡◌, ◌+◌, ◌-◌, ◌*◌, ◌/◌, ◌≤◌, ◌^◌, ◌++◌, [], min, length, IfErr, OnOk, OnErr};
-ghost use Rattle.raft_log_disk.specs.Cause.{NothingRefuses, RefusesNoMore};
+ghost use Rattle.raft_log_disk.specs.Cause.{NothingRefuses, RefusesNoMore, Spends};
 ghost use Rattle.raft_log_pipe.specs.Alone.{directories_of_pipe, main_of};
 ghost use Rattle.raft_log_pipe.specs.Caused.{IsRefusalOrMemory};
 ghost use Rattle.raft_log_pipe.specs.Kept.{KeepsSettings};
@@ -96,6 +96,7 @@ impl SinglePipe {
         ensures later { RefusesNoMore (F.is_bounded files.old) (F.is_bounded files.new) (F.meter files.old) (F.meter files.new) }
         ensures taken { NothingRefuses (F.is_bounded files.old) (F.meter files.old) → IsOkOrMemory result }
         ensures cause { IfErr result (λ e. IsRefusalOrMemory (F.meter files.old) (F.meter files.new) e) }
+        ensures spends { OnOk result (Spends (F.meter files.old) (F.meter files.new)) }
     {
         self.writer.sync(files)?;
         Ok(())

@@ -2,7 +2,7 @@
 
 ghost use Rattle.std.specs.Prelude.{◌≡◌, ◌⊎◌, IfErr, IsErrOf, OnOk};
 ghost use Rattle.raft_log_records.specs.Spelling.{AreItems};
-ghost use Rattle.raft_log_disk.specs.Cause.{NothingRefuses, RefusesNoMore};
+ghost use Rattle.raft_log_disk.specs.Cause.{NothingRefuses, RefusesNoMore, Spends};
 ghost use Rattle.raft_log_files.specs.declared.error.Error.TheVariants.{Other};
 ghost use Rattle.raft_log_files.specs.declared.error.OtherFault.TheVariants.{FileGone};
 ghost use Rattle.raft_log_pipe.specs.Alone.{IsAlone};
@@ -59,6 +59,7 @@ impl DualPipes {
         ensures later { RefusesNoMore (F.is_bounded files.old) (F.is_bounded files.new) (F.meter files.old) (F.meter files.new) }
         ensures taken { NothingRefuses (F.is_bounded files.old) (F.meter files.old) → IsOkOrMemory result }
         ensures cause { IfErr result (λ e. IsRefusalOrMemory (F.meter files.old) (F.meter files.new) e) }
+        ensures spends { OnOk result (Spends (F.meter files.old) (F.meter files.new)) }
     {
         match queue {
             LogQueue::Append => self.append.sync(files),

@@ -7,3 +7,4 @@ pub mod StoredLemmas
 pub mod RewrittenAnew
 pub mod ToldLemmas
 pub mod HeardLemmas
+pub mod CausedLemmas

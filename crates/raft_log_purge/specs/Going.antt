@@ -2,7 +2,10 @@
 use Rattle.std.specs.Prelude.{◌≡◌, ◌≤◌, ℕ, Option, IfSome}
 use Rattle.raft_log_covers.specs.Kept.{Traces}
 use Rattle.raft_log_covers.specs.Trace.{greater}
+use Rattle.raft_log_disk.specs.Cause.{Meter, Rises}
+use Rattle.raft_log_files.specs.declared.error.Error.{Error}
 use Rattle.raft_log_pipe.specs.declared.pipe.SinglePipe.{SinglePipe}
+use Rattle.raft_log_pipe.specs.Caused.{IsCaused}
 use Rattle.raft_log_pipe.specs.Pipe.{first_of}
 use Rattle.raft_log_traces.specs.Files.{KeepsFrom}
 
@@ -20,3 +23,7 @@ pub record IsFirstNeeded (traces : Traces) (kept : Option ℕ) (active seq : ℕ
 -- The files of a queue are gone up to before the first one that is needed, and no others are.
 abbrev pub GoesToNeeded : Traces → Option ℕ → SinglePipe → SinglePipe → Type 0
 GoesToNeeded traces kept old new = (seq : ℕ) × IsFirstNeeded traces kept new.active.seq seq × (first_of new ≡ greater (first_of old) seq)
+
+-- Why files don't go: a call was refused, memory is missing, or a file that is to go isn't there. The queue has a file of the number.
+abbrev pub IsGoingFault : Meter → Meter → Error → Type 0
+IsGoingFault old new e = IsCaused (Rises 1 old new) ⊥ ⊥ (Unit {0}) e

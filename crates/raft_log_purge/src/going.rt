@@ -12,7 +12,7 @@ ghost use Rattle.raft_log_pipes.specs.Pipes.{ArePipes, IsAsBefore, pipe_of};
 ghost use Rattle.raft_log_records.specs.declared.file_id.LogQueue.TheVariants.{Append, Rewrite};
 ghost use Rattle.raft_log_traces.specs.Files.{IsKeptFrom, KeepsFrom};
 ghost use Rattle.raft_log_traces.specs.GroupTraces.{traces_in};
-ghost use Rattle.raft_log_purge.specs.Going.{GoesToNeeded, MayGoBefore};
+ghost use Rattle.raft_log_purge.specs.Going.{GoesToNeeded, IsGoingFault, MayGoBefore};
 
 use raft_log_files::{Error, FileSystem};
 use raft_log_pipes::DualPipes;
@@ -71,6 +71,7 @@ pub fn let_go<F: FileSystem>(
     ensures others { KeepsOthers Append (F.disk files.old) (F.disk files.new) }
     ensures other { IsAsBefore (pipe_of pipes.old Rewrite) (F.disk files.old) (pipe_of pipes.new Rewrite) (F.disk files.new) }
     ensures later { RefusesNoMore (F.is_bounded files.old) (F.is_bounded files.new) (F.meter files.old) (F.meter files.new) }
+    ensures cause { IfErr result (λ e. IsGoingFault (F.meter files.old) (F.meter files.new) e) }
 {
     let (first, active) = pipes.file_span(LogQueue::Append);
     let kept = first_kept(active, traces, barrier);

@@ -1,9 +1,10 @@
 //! Marks of groups, in a batch for the rewrite queue.
 
-ghost use Rattle.std.specs.Prelude.{◌≡◌, ◌≤◌, ◌<◌, ◌⊎◌, ◌++◌, false, true, length, slice_index, List, ℕ, IfOk, IsTrue, OnOk};
+ghost use Rattle.std.specs.Prelude.{◌≡◌, ◌≤◌, ◌<◌, ◌⊎◌, ◌++◌, false, true, length, slice_index, List, ℕ, IfErr, IfOk, IsTrue, OnOk};
 ghost use Rattle.raft_log_records.specs.Spelling.{record_len};
 ghost use Rattle.raft_log_covers.specs.Kept.{with_trace};
 ghost use Rattle.raft_log_covers.specs.Marks.{of_group};
+ghost use Rattle.raft_log_marks.specs.Caused.{IsMarkFault};
 ghost use Rattle.raft_log_marks.specs.GroupMarks.{marks_of, trace_after_marks};
 ghost use Rattle.raft_log_memtables.specs.Content.{Content};
 ghost use Rattle.raft_log_memtables.specs.MemTables.{content_in};
@@ -73,6 +74,7 @@ pub fn mark_group(
         → HasSteps content (traces_in traces.old) batch.old.items (traces_in traces.new) batch.new.items) }
     ensures marked { OnOk result (needs_marks file (traces_in traces.new group) ≡ false) }
     ensures stays { OnOk result ((other : ℕ) → needs_marks file (traces_in traces.old other) ≡ false → needs_marks file (traces_in traces.new other) ≡ false) }
+    ensures cause { IfErr result IsMarkFault }
 {
     let Some(trace) = traces.get(group) else {
         return Ok(());
@@ -98,6 +100,7 @@ pub fn mark_anyway(
     ensures written { OnOk result (batch.new.items ≡ batch.old.items ++ of_group group (marks_of true (traces_in traces.old group))) }
     ensures steps { OnOk result ((content : Content (List ℕ)) → (content group).there ≡ true
         → HasSteps content (traces_in traces.old) batch.old.items (traces_in traces.new) batch.new.items) }
+    ensures cause { IfErr result IsMarkFault }
 {
     let Some(trace) = traces.get(group) else {
         batch.add_command(group, Command::Compact { index: 0 })?;
@@ -123,6 +126,7 @@ pub fn mark_groups(
         → HasSteps content (traces_in traces.old) batch.old.items (traces_in traces.new) batch.new.items) }
     ensures marked { IfOk result (λ n. (k : ℕ) → k < n → needs_marks file (traces_in traces.new (slice_index groups.now k)) ≡ false) }
     ensures all_or_large { IfOk result (λ n. (n ≡ length groups.now) ⊎ (131072 ≤ record_len batch.new.items)) }
+    ensures cause { IfErr result IsMarkFault }
 {
     let mut count = 0;
     for group in groups {

@@ -1,6 +1,7 @@
 //! Entries and keys of groups, in a batch for the rewrite queue.
 
-ghost use Rattle.std.specs.Prelude.{◌≡◌, ◌+◌, ◌<◌, ◌^◌, ◌∷◌, ◌++◌, [], false, true, length, List, ℕ, OnOk, Some};
+ghost use Rattle.std.specs.Prelude.{◌≡◌, ◌+◌, ◌<◌, ◌^◌, ◌∷◌, ◌++◌, [], false, true, length, IfErr, List, ℕ, OnOk, Some};
+ghost use Rattle.raft_log_marks.specs.Caused.{IsBatchFault};
 ghost use Rattle.raft_log_memtables.specs.Content.{Content};
 ghost use Rattle.raft_log_purge.specs.Steps.{HasSteps, IsFrontOf};
 ghost use Rattle.raft_log_records.specs.Batch.{payloads, run_of};
@@ -19,7 +20,8 @@ fn add_run(
 ) -> Result<(), RecordError>
     requires some { 0 < length entries.now }
     requires indexes { first + length entries.now < 2 ^ 64 }
-    ensures { OnOk result (batch.new.items ≡ batch.old.items ++ run_of group first (payloads entries.now) ∷ []) }
+    ensures added { OnOk result (batch.new.items ≡ batch.old.items ++ run_of group first (payloads entries.now) ∷ []) }
+    ensures cause { IfErr result IsBatchFault }
 {
     batch.add_raw_entries(group, first, entries)
 }
@@ -40,6 +42,7 @@ pub fn rewrite_entries(
     ensures written { OnOk result (batch.new.items ≡ batch.old.items ++ run_of group first (payloads entries.now) ∷ []) }
     ensures steps { OnOk result ((content : Content (List ℕ)) → IsFrontOf content (traces_in traces.old) group first (payloads entries.now)
         → HasSteps content (traces_in traces.old) batch.old.items (traces_in traces.new) batch.new.items) }
+    ensures cause { IfErr result IsBatchFault }
 {
     add_run(batch, group, first, entries)?;
     traces.set_rewritten(group, first as u128 + entries.len() as u128);
@@ -60,6 +63,7 @@ pub fn rewrite_key(
     ensures written { OnOk result (batch.new.items ≡ batch.old.items ++ record { group = group; change = put key.items value.items } ∷ []) }
     ensures steps { OnOk result ((content : Content (List ℕ)) → (traces_in traces.old group).cleaned ≡ false → (content group).there ≡ true
         → (content group).value key.items ≡ Some value.items → HasSteps content (traces_in traces.old) batch.old.items (traces_in traces.new) batch.new.items) }
+    ensures cause { IfErr result IsBatchFault }
 {
     traces.set_key_rewritten(group, &key);
     batch.put(group, key, value)

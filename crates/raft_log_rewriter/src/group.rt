@@ -1,9 +1,11 @@
 //! A group written anew: all that it has in the rewrite queue.
 
-ghost use Rattle.std.specs.Prelude.{◌≡◌, ◌≤◌, ◌<◌, ◌++◌, ◌∷◌, [], ℕ, List, OnOk, true};
-ghost use Rattle.raft_log_disk.specs.Cause.{RefusesNoMore};
+ghost use Rattle.std.specs.Prelude.{◌≡◌, ◌≤◌, ◌<◌, ◌++◌, ◌∷◌, [], ℕ, List, IfErr, OnOk, true};
+ghost use Rattle.raft_log_cleaner.specs.Caused.{IsCleaningFault};
+ghost use Rattle.raft_log_disk.specs.Cause.{Meter, RefusesNoMore};
 ghost use Rattle.raft_log_disk.specs.Disk.{Disk};
 ghost use Rattle.raft_log_covers.specs.Marks.{of_group};
+ghost use Rattle.raft_log_marks.specs.Caused.{IsBatchFault};
 ghost use Rattle.raft_log_pipes.specs.Pipes.{ArePipes};
 ghost use Rattle.raft_log_pipes.specs.declared.pipes.DualPipes.{DualPipes};
 ghost use Rattle.raft_log_records.specs.Batch.{payloads};
@@ -25,7 +27,8 @@ use std::alloc::Global;
 /// Adds what a group begins with to the batch: a `Clean`, so that nothing of older records counts, and
 /// a `Compact`, so that the group is there.
 fn add_begin(batch: &mut LogBatch, group: u64) -> Result<(), RecordError>
-    ensures { OnOk result (batch.new.items ≡ batch.old.items ++ of_group group (clean ∷ (compact 0 ∷ []))) }
+    ensures added { OnOk result (batch.new.items ≡ batch.old.items ++ of_group group (clean ∷ (compact 0 ∷ []))) }
+    ensures cause { IfErr result IsBatchFault }
 {
     batch.add_command(group, Command::Clean)?;
     batch.add_command(group, Command::Compact { index: 0 })
@@ -49,6 +52,7 @@ fn add_chunk<F: FileSystem>(
     ensures goes_on { (first : ℕ) → GoesOn (F.disk files.now) pipes.now log.now writer.old (at (entries_to group first begin.old))
         (F.disk files.now) pipes.now log.now writer.new (at (entries_to group first begin.new)) result }
     ensures further { OnOk result ((begin.old < begin.new) × (begin.new ≤ stop)) }
+    ensures cause { IfErr result (λ e. IsCleaningFault (F.meter files.now) (F.meter files.now) e) }
 {
     let entries = copies(alloc, files, pipes, &log.tables, group, *begin, stop)?;
     match writer.batch.add_raw_entries(group, *begin, &entries) {
@@ -75,6 +79,7 @@ fn rewrite_entries<F: FileSystem>(
         (F.disk files.new) pipes.new log.new writer.new (at (entries_to group range.0 range.1)) result }
     ensures traces { log.new.traces ≡ log.old.traces }
     ensures later { RefusesNoMore (F.is_bounded files.old) (F.is_bounded files.new) (F.meter files.old) (F.meter files.new) }
+    ensures cause { IfErr result (λ e. IsCleaningFault (F.meter files.old) (F.meter files.new) e) }
 {
     let (mut begin, stop) = range;
     while begin < stop {
@@ -93,8 +98,9 @@ fn add_key(
     group: u64,
     name: &[u8],
 ) -> Result<(), Error>
-    ensures { (d : Disk) (p : DualPipes) (first stop : ℕ) (before : List (List ℕ)) → GoesOn d p log.now writer.old (at (keys_to group first stop before))
+    ensures goes_on { (d : Disk) (p : DualPipes) (first stop : ℕ) (before : List (List ℕ)) → GoesOn d p log.now writer.old (at (keys_to group first stop before))
         d p log.now writer.new (at (keys_to group first stop (before ++ name.now ∷ []))) result }
+    ensures cause { (meter : Meter) → IfErr result (λ e. IsCleaningFault meter meter e) }
 {
     let Some(value) = log.tables.get(group, name) else {
         return Ok(());
@@ -125,6 +131,7 @@ fn rewrite_keys<F: FileSystem>(
         (F.disk files.new) pipes.new log.new writer.new (at (keys_to group first stop (payloads names.now))) result }
     ensures traces { log.new.traces ≡ log.old.traces }
     ensures later { RefusesNoMore (F.is_bounded files.old) (F.is_bounded files.new) (F.meter files.old) (F.meter files.new) }
+    ensures cause { IfErr result (λ e. IsCleaningFault (F.meter files.old) (F.meter files.new) e) }
 {
     for name in names {
         add_key(alloc, log, writer, group, name)?;
@@ -148,6 +155,7 @@ pub(crate) fn rewrite_group<F: FileSystem>(
         (F.disk files.new) pipes.new log.new writer.new (λ done. at between (done ++ group ∷ [])) result }
     ensures group { OnOk result (writer.new.group ≡ None) }
     ensures later { RefusesNoMore (F.is_bounded files.old) (F.is_bounded files.new) (F.meter files.old) (F.meter files.new) }
+    ensures cause { IfErr result (λ e. IsCleaningFault (F.meter files.old) (F.meter files.new) e) }
 {
     if !log.tables.has_group(group) {
         return Ok(());

@@ -1,6 +1,7 @@
 //! The rewrite queue, written anew.
 
-ghost use Rattle.std.specs.Prelude.{◌≡◌, ◌+◌, ◌++◌, ℕ, List, [], IfOk, OnErr, OnOk};
+ghost use Rattle.std.specs.Prelude.{◌≡◌, ◌+◌, ◌++◌, ℕ, List, [], IfErr, IfOk, OnErr, OnOk};
+ghost use Rattle.raft_log_cleaner.specs.Caused.{IsCleaningFault};
 ghost use Rattle.raft_log_cleaner.specs.Pipes.{KeepsAppends};
 ghost use Rattle.raft_log_disk.specs.Cause.{RefusesNoMore};
 ghost use Rattle.raft_log_memtables.specs.Content.{Content};
@@ -28,6 +29,7 @@ fn begin_file<F: FileSystem>(
     ensures begins { BeginsFile (F.disk files.old) pipes.old log.now (F.disk files.new) pipes.new result }
     ensures next { IfOk result (λ next. next ≡ pipes.old.rewrite.active.seq + 1) }
     ensures later { RefusesNoMore (F.is_bounded files.old) (F.is_bounded files.new) (F.meter files.old) (F.meter files.new) }
+    ensures cause { IfErr result (λ e. IsCleaningFault (F.meter files.old) (F.meter files.new) e) }
 {
     pipes.rotate(files, LogQueue::Rewrite)?;
     let (_, active) = pipes.file_span(LogQueue::Rewrite);
@@ -49,6 +51,7 @@ fn rewrite_each<F: FileSystem>(
         (F.disk files.new) pipes.new log.new writer.new (λ done. at between (done ++ groups.now)) result }
     ensures group { OnOk result (writer.new.group ≡ None) }
     ensures later { RefusesNoMore (F.is_bounded files.old) (F.is_bounded files.new) (F.meter files.old) (F.meter files.new) }
+    ensures cause { IfErr result (λ e. IsCleaningFault (F.meter files.old) (F.meter files.new) e) }
 {
     for group in groups {
         rewrite_group(alloc, files, pipes, log, writer, *group)?;
@@ -66,6 +69,7 @@ fn rewrite_groups<F: FileSystem>(
     requires { (next : ℕ) × (content : Content (List ℕ)) × Stands (F.disk files.old) pipes.old log.old next [] content }
     ensures writes { (next : ℕ) → WritesGroups (F.disk files.old) pipes.old log.old next (F.disk files.new) pipes.new log.new result }
     ensures later { RefusesNoMore (F.is_bounded files.old) (F.is_bounded files.new) (F.meter files.old) (F.meter files.new) }
+    ensures cause { IfErr result (λ e. IsCleaningFault (F.meter files.old) (F.meter files.new) e) }
 {
     let groups = log.tables.groups()?;
     let mut writer = Writer::new(alloc);
@@ -86,6 +90,7 @@ fn let_old_go<F: FileSystem>(
     ensures lets_go { LetsGo (F.disk files.old) pipes.old log.now next (F.disk files.new) pipes.new result }
     ensures gone { OnOk result (first_of pipes.new.rewrite ≡ next) }
     ensures later { RefusesNoMore (F.is_bounded files.old) (F.is_bounded files.new) (F.meter files.old) (F.meter files.new) }
+    ensures cause { IfErr result (λ e. IsCleaningFault (F.meter files.old) (F.meter files.new) e) }
 {
     pipes.purge_to(files, LogQueue::Rewrite, next)?;
     Ok(())
@@ -109,6 +114,7 @@ pub fn must_rewrite_rewrite_queue<F: FileSystem>(
     ensures kept { OnOk result (KeepsAppends (F.disk files.old) pipes.old (F.disk files.new) pipes.new) }
     ensures left { OnErr result (IsLeftStanding (F.disk files.old) pipes.old log.old (F.disk files.new) pipes.new) }
     ensures later { RefusesNoMore (F.is_bounded files.old) (F.is_bounded files.new) (F.meter files.old) (F.meter files.new) }
+    ensures cause { IfErr result (λ e. IsCleaningFault (F.meter files.old) (F.meter files.new) e) }
 {
     let next = begin_file(files, pipes, log)?;
     rewrite_groups(alloc, files, pipes, log)?;

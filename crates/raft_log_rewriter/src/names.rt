@@ -1,8 +1,9 @@
 //! What a group has in the rewrite queue.
 
-ghost use Rattle.std.specs.Prelude.{◌≡◌, ◌≤◌, ◌<◌, ℕ, List, map, true, IfOk, IsTrue, OnOk};
+ghost use Rattle.std.specs.Prelude.{◌≡◌, ◌≤◌, ◌<◌, ℕ, List, map, true, IfErr, IfOk, IsTrue, OnOk};
 ghost use Rattle.std.specs.Map.Iter.{deref_pair};
 ghost use Rattle.raft_log_covers.specs.Marks.{is_in};
+ghost use Rattle.raft_log_files.specs.declared.error.Error.TheVariants.{EntryNotFound};
 ghost use Rattle.raft_log_purge.specs.Anew.{names_of};
 ghost use Rattle.raft_log_memtables.specs.MemTables.{content_in};
 ghost use Rattle.raft_log_records.specs.Batch.{payloads};
@@ -18,6 +19,7 @@ use std::alloc::{AllocError, Global};
 fn as_range(low: u128, stop: u128) -> Result<(u64, u64), Error>
     ensures same { IfOk result (λ range. low < stop → (range.0 ≡ low) × (range.1 ≡ stop)) }
     ensures none { IfOk result (λ range. stop ≤ low → range.0 ≡ range.1) }
+    ensures cause { IfErr result (λ e. e ≡ EntryNotFound) }
 {
     if stop <= low {
         return Ok((0, 0));
@@ -31,7 +33,8 @@ fn as_range(low: u128, stop: u128) -> Result<(u64, u64), Error>
 /// The entries of a group that stand in the rewrite queue: from an index on, up to before another one.
 /// A list that reaches the greatest index is refused.
 pub(crate) fn stored_range(traces: &GroupTraces, group: u64) -> Result<(u64, u64), Error>
-    ensures { IfOk result (λ range. IsStoredRange (traces_in traces.now group) range.0 range.1) }
+    ensures is { IfOk result (λ range. IsStoredRange (traces_in traces.now group) range.0 range.1) }
+    ensures cause { IfErr result (λ e. e ≡ EntryNotFound) }
 {
     match traces.get(group) {
         None => Ok((0, 0)),

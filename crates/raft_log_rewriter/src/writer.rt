@@ -1,7 +1,9 @@
 //! Records of the rewrite queue that is written anew.
 
-ghost use Rattle.std.specs.Prelude.{◌≡◌, ◌∷◌, ◌++◌, [], OnOk};
+ghost use Rattle.std.specs.Prelude.{◌≡◌, ◌∷◌, ◌++◌, [], IfErr, OnOk};
+ghost use Rattle.raft_log_cleaner.specs.Caused.{IsCleaningFault};
 ghost use Rattle.raft_log_disk.specs.Cause.{RefusesNoMore};
+ghost use Rattle.raft_log_marks.specs.Caused.{IsBatchFault};
 ghost use Rattle.raft_log_pipes.specs.Pipes.{ArePipes};
 ghost use Rattle.raft_log_records.specs.Item.Change.{mark};
 ghost use Rattle.raft_log_records.specs.declared.item.AtomicGroupStatus.TheVariants.{End};
@@ -32,6 +34,7 @@ fn write_batch<F: FileSystem>(
     ensures emptied { OnOk result (batch.new.items ≡ []) }
     ensures traces { log.new.traces ≡ log.old.traces }
     ensures later { RefusesNoMore (F.is_bounded files.old) (F.is_bounded files.new) (F.meter files.old) (F.meter files.new) }
+    ensures cause { IfErr result (λ e. IsCleaningFault (F.meter files.old) (F.meter files.new) e) }
 {
     let len = match batch.finish_populate() {
         Ok(len) => len,
@@ -55,6 +58,7 @@ pub(crate) fn sync_rewrites<F: FileSystem>(
     ensures syncs { SyncsRecords (F.disk files.old) pipes.old log.now (F.disk files.new) pipes.new result }
     ensures both { ArePipes pipes.new (F.disk files.new) }
     ensures later { RefusesNoMore (F.is_bounded files.old) (F.is_bounded files.new) (F.meter files.old) (F.meter files.new) }
+    ensures cause { IfErr result (λ e. IsCleaningFault (F.meter files.old) (F.meter files.new) e) }
 {
     pipes.sync(files, LogQueue::Rewrite)?;
     Ok(())
@@ -101,6 +105,7 @@ impl Writer {
         ensures traces { log.new.traces ≡ log.old.traces }
         ensures group { self.new.group ≡ self.old.group }
         ensures later { RefusesNoMore (F.is_bounded files.old) (F.is_bounded files.new) (F.meter files.old) (F.meter files.new) }
+        ensures cause { IfErr result (λ e. IsCleaningFault (F.meter files.old) (F.meter files.new) e) }
     {
         let len = write_batch(files, pipes, log, &mut self.batch)?;
         self.unsynced = self.unsynced.saturating_add(len as u64);
@@ -113,7 +118,8 @@ impl Writer {
 
     /// Marks the batch as the first record of an atomic group, which is being written then.
     fn mark_begin(&mut self) -> Result<(), RecordError>
-        ensures { OnOk result (IsMarkedPart None self.old.batch.items self.new.group self.new.batch.items) }
+        ensures marked { OnOk result (IsMarkedPart None self.old.batch.items self.new.group self.new.batch.items) }
+        ensures cause { IfErr result IsBatchFault }
     {
         let id = self.next_id;
         AtomicGroupBuilder::with_id(id).begin(&mut self.batch)?;
@@ -124,7 +130,8 @@ impl Writer {
 
     /// Marks the batch as a record of an atomic group that goes on behind it.
     fn mark_part(&mut self) -> Result<(), RecordError>
-        ensures { OnOk result (IsMarkedPart self.old.group self.old.batch.items self.new.group self.new.batch.items) }
+        ensures marked { OnOk result (IsMarkedPart self.old.group self.old.batch.items self.new.group self.new.batch.items) }
+        ensures cause { IfErr result IsBatchFault }
     {
         match self.group {
             Some(id) => AtomicGroupBuilder::with_id(id).add(&mut self.batch),
@@ -144,6 +151,7 @@ impl Writer {
         ensures goes_on { (stage : Stage) → GoesOn (F.disk files.old) pipes.old log.old self.old (at stage) (F.disk files.new) pipes.new log.new self.new (at stage) result }
         ensures traces { log.new.traces ≡ log.old.traces }
         ensures later { RefusesNoMore (F.is_bounded files.old) (F.is_bounded files.new) (F.meter files.old) (F.meter files.new) }
+        ensures cause { IfErr result (λ e. IsCleaningFault (F.meter files.old) (F.meter files.new) e) }
     {
         if self.batch.approximate_size() < MOST_BATCH_BYTES {
             return Ok(());
@@ -169,6 +177,7 @@ impl Writer {
         ensures group { OnOk result (self.new.group ≡ None) }
         ensures traces { log.new.traces ≡ log.old.traces }
         ensures later { RefusesNoMore (F.is_bounded files.old) (F.is_bounded files.new) (F.meter files.old) (F.meter files.new) }
+        ensures cause { IfErr result (λ e. IsCleaningFault (F.meter files.old) (F.meter files.new) e) }
     {
         match AtomicGroupBuilder::with_id(id).end(&mut self.batch) {
             Ok(()) => {}
@@ -193,6 +202,7 @@ impl Writer {
         ensures group { self.new.group ≡ None }
         ensures traces { log.new.traces ≡ log.old.traces }
         ensures later { RefusesNoMore (F.is_bounded files.old) (F.is_bounded files.new) (F.meter files.old) (F.meter files.new) }
+        ensures cause { IfErr result (λ e. IsCleaningFault (F.meter files.old) (F.meter files.new) e) }
     {
         if self.batch.is_empty() {
             return Ok(());
@@ -213,6 +223,7 @@ impl Writer {
         ensures group { OnOk result (self.new.group ≡ None) }
         ensures traces { log.new.traces ≡ log.old.traces }
         ensures later { RefusesNoMore (F.is_bounded files.old) (F.is_bounded files.new) (F.meter files.old) (F.meter files.new) }
+        ensures cause { IfErr result (λ e. IsCleaningFault (F.meter files.old) (F.meter files.new) e) }
     {
         if let Some(id) = self.group {
             return self.write_end(files, pipes, log, id);

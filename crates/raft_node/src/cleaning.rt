@@ -6,6 +6,7 @@ ghost use Rattle.raft_group_storage.specs.Keeping.{KeepsAll};
 ghost use Rattle.raft_node.specs.Settling.{IsStorageStop};
 ghost use Rattle.raft_node.specs.Standing.{running_in};
 ghost use Rattle.raft_node.specs.Waiting.{waiting_of};
+ghost use Rattle.raft_node_faults.specs.Fault.{fault_met_by_node};
 ghost use Rattle.raft_node_faults.specs.declared.fault.Fault.TheVariants.{Failed};
 
 use crate::node::Node;
@@ -31,7 +32,7 @@ impl<M: StateMachine, S: GroupStorage<Snapshot = SnapshotBytes> + CleanStorage> 
         ensures stopped { self.old.groups.has_failed ≡ false
             → OnErr result ((self.new.groups ≡ record self.old.groups { storage = self.new.groups.storage; has_failed = true })
             × (self.new.machines ≡ None) × (self.new.feeders ≡ self.old.feeders)) }
-        ensures met { OnOk result (S.GroupStorage.meets self.old.groups.storage self.new.groups.storage None) }
+        ensures met { S.GroupStorage.meets self.old.groups.storage self.new.groups.storage (fault_met_by_node result) }
     {
         if self.groups.has_failed {
             return Err(Fault::Failed);

@@ -13,6 +13,7 @@ impl<M: StateMachine, S: GroupStorage<Snapshot = SnapshotBytes> + FuseStorage> N
     /// with none they refuse no call any more (own). Nothing else changes.
     pub fn fuse(&mut self, first_refused: Option<u64>)
         ensures same { self.new ≡ record self.old { groups = record self.old.groups { storage = self.new.groups.storage } } }
+        ensures fused { S.FuseStorage.fused self.old.groups.storage first_refused self.new.groups.storage }
         ensures well { S.GroupStorage.is_well self.old.groups.storage → S.GroupStorage.is_well self.new.groups.storage }
         ensures kept { KeepsAll (S.GroupStorage.shows self.old.groups.storage) (S.GroupStorage.shows self.new.groups.storage) }
     {

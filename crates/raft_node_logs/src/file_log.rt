@@ -1,16 +1,16 @@
 //! A log on files in memory, as a node's.
-ghost use Rattle.std.specs.Prelude.{◌≡◌, IfErr, IfOk, false, min};
+ghost use Rattle.std.specs.Prelude.{◌≡◌, IfErr, IfOk, false, map, min};
 ghost use Rattle.raft_content_log.specs.Leaving.{LeavesOnly};
 ghost use Rattle.raft_log_disk.specs.MemorySystem.{disk_in};
 ghost use Rattle.raft_log_engine.specs.Left.{answers_on};
 ghost use Rattle.raft_log_engine.specs.Log.{leaves_of_log};
 ghost use Rattle.raft_node_logs.specs.Stopping.{quiet_stop};
-ghost use Rattle.raft_node_logs.specs.Files.{AreNotOpened, IsFoundAs, cause_of_log, cause_of_refusal, choice_in, refusal_in};
+ghost use Rattle.raft_node_logs.specs.Files.{AreNotOpened, ChoosesSo, IsFoundAs, IsOpenedLog, cause_of_log, cause_of_refusal, refusal_in, said_bytes, told_image};
 
 use crate::node_log::{NodeLog, Unopened};
 use crate::stopping::quiet_stop;
-use raft_cluster_events::{CrashChoice, CrashRefusal, StopCause};
-use raft_log_disk::{CrashChoice as FileChoice, CrashRefusal as FileRefusal};
+use raft_cluster_events::{CrashChoice, CrashRefusal, FileImage, StopCause};
+use raft_log_disk::{CrashChoice as FileChoice, CrashRefusal as FileRefusal, FileBytes};
 use raft_log_engine::{EngineFault, LogFiles, MemoryLog, NotOpened};
 use raft_log_files::{Config, Error};
 use std::alloc::{AllocError, Global};
@@ -71,6 +71,7 @@ fn open_log<R: Threads + Sync>(
     ensures sound { IfOk result (λ l. l.has_failed ≡ false) }
     ensures found { IfOk result (λ l. IsFoundAs files (answers_on disk_in l.engine)) }
     ensures leaves { IfOk result (λ l. LeavesOnly (leaves_of_log disk_in l) (answers_on disk_in l.engine)) }
+    ensures opens { IfOk result (IsOpenedLog files) }
     ensures err { IfErr result (λ u. AreNotOpened files u.stop u.files) }
 {
     if let Err(why) = files.check_genuine() {
@@ -92,13 +93,38 @@ fn open_log<R: Threads + Sync>(
     }
 }
 
+// What a crash leaves of a file, in the words of files.
+fn file_bytes(alloc: Global, image: &FileImage) -> Result<FileBytes, AllocError>
+    ensures { IfOk result (λ bytes. said_bytes bytes ≡ told_image image.now) }
+{
+    let path = String::from_str(alloc, image.path.as_str())?;
+    let bytes = Vec::from_slice(alloc, &image.bytes)?;
+    Ok(FileBytes { path, bytes })
+}
+
+// What a crash leaves of each file, in the words of files.
+fn all_bytes(alloc: Global, images: &[FileImage]) -> Result<Vec<FileBytes>, AllocError>
+    ensures { IfOk result (λ all. map said_bytes all.items ≡ map told_image images.now) }
+{
+    let mut all = Vec::new(alloc);
+    for image in images {
+        let bytes = file_bytes(alloc, image)?;
+        all.push(bytes)?;
+    }
+    Ok(all)
+}
+
 /// What a crash leaves, in the words of files.
-pub fn file_choice(choice: CrashChoice) -> FileChoice
-    ensures { result ≡ choice_in choice }
+pub fn file_choice(alloc: Global, choice: &CrashChoice) -> Result<FileChoice, AllocError>
+    ensures { IfOk result (ChoosesSo choice.now) }
 {
     match choice {
-        CrashChoice::Least => FileChoice::Least,
-        CrashChoice::Most => FileChoice::Most,
+        CrashChoice::Least => Ok(FileChoice::Least),
+        CrashChoice::Most => Ok(FileChoice::Most),
+        CrashChoice::Bytes(images) => {
+            let all = all_bytes(alloc, images.as_slice())?;
+            Ok(FileChoice::Bytes(all))
+        }
     }
 }
 
@@ -118,7 +144,8 @@ impl NodeLog for MemoryLog {
 
     type Settings = Config;
 
-    ghost use Rattle.raft_node_logs.specs.Files.{IsFoundAs, IsNotOpened, cause_of_log, choice_in, files_in, refusal_in};
+    ghost use Rattle.std.specs.Prelude.{◌≡◌};
+    ghost use Rattle.raft_node_logs.specs.Files.{AreFusedFiles, IsFoundAs, IsNotOpened, IsOpenedLog, ChoosesSo, RefuseNothing, cause_of_log, files_in, refusal_in};
 
     ghost found = { λ files content. IsFoundAs files content };
 
@@ -126,13 +153,21 @@ impl NodeLog for MemoryLog {
 
     ghost unopened = { λ old cause new. IsNotOpened old cause new };
 
+    ghost opens = { λ files log. IsOpenedLog files log };
+
+    ghost fresh = { λ files. RefuseNothing files };
+
+    ghost hands_back = { λ log files. files ≡ files_in log };
+
+    ghost fused_files = { λ old first new. AreFusedFiles old first new };
+
     ghost cause = { cause_of_log };
 
-    ghost choice = { choice_in };
+    ghost chooses = { λ asked chosen. ChoosesSo asked chosen };
 
     ghost refusal = { refusal_in };
 
-    ghost crashed_left = { λ old new content crashed f. crashed.found content f.genuine f.found };
+    ghost crashed_left = { λ old new choice content crashed f. crashed.found content f.found };
 
     fn new_files(alloc: Global, settings: &Config) -> Result<LogFiles, AllocError> {
         Ok(LogFiles::new(alloc, settings.clone()?))
@@ -163,8 +198,8 @@ impl NodeLog for MemoryLog {
         cause_of_log(fault)
     }
 
-    fn choice_of(asked: CrashChoice) -> FileChoice {
-        file_choice(asked)
+    fn choice_of(alloc: Global, asked: &CrashChoice) -> Result<FileChoice, AllocError> {
+        file_choice(alloc, asked)
     }
 
     fn refusal_of(why: FileRefusal) -> CrashRefusal {

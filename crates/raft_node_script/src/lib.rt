@@ -9,6 +9,7 @@ mod run;
 mod script;
 
 pub use home::{HomeRefusal, NodeHome};
+pub use lines::{NodeLine, NodeLineError, ReadNodeLine, read_node_line};
 pub use raft_script_session::ScriptEnd;
 pub use run::run_node_script;
 pub use script::NodeScript;

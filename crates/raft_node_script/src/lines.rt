@@ -2,9 +2,12 @@
 
 use raft_cluster_events::{ClusterEvent, GroupCommand};
 use raft_cluster_script::event_of;
-use raft_script_lines::{ReadLineError, ScriptEvent, ScriptLine, first_word, number_of, read_line};
+use raft_script_lines::{
+    NoEvent, ReadLineError, ScriptEvent, ScriptLine, first_word, number_of, read_line,
+};
 use std::alloc::{AllocError, Global};
 use std::str;
+use thiserror::Error;
 
 /// What a line of a node's script says (own).
 #[derive(Drop)]
@@ -34,6 +37,38 @@ pub struct ReadNodeLine {
     pub tokens: u64,
 }
 
+/// Why a line is none of a node's script (own).
+#[derive(Clone, Copy, Debug, PartialEq, Eq, Error)]
+pub enum NodeLineError {
+    /// It is no event of a node.
+    #[error("{0}")]
+    NoEvent(NoEvent),
+    /// What follows the peer of `feed` isn't pairs of hexadecimal digits.
+    #[error("not hexadecimal")]
+    NotHexadecimal,
+    /// Want of memory.
+    #[error("out of memory")]
+    Memory,
+}
+
+impl From<AllocError> for NodeLineError {
+    fn from(_e: AllocError) -> NodeLineError {
+        NodeLineError::Memory
+    }
+}
+
+impl From<ReadLineError> for NodeLineError {
+    fn from(error: ReadLineError) -> NodeLineError {
+        match error {
+            ReadLineError::NoEvent(why) => NodeLineError::NoEvent(why),
+            ReadLineError::Memory => NodeLineError::Memory,
+        }
+    }
+}
+
+// A word that begins no line here.
+const FOREIGN: NodeLineError = NodeLineError::NoEvent(NoEvent::UnknownWord);
+
 // Whether a line that begins with this word names no node in a cluster's script.
 fn is_of_all(word: &str) -> bool {
     matches!(word, "" | "now") || word.starts_with('#')
@@ -53,17 +88,17 @@ fn with_node(alloc: Global, node: u64, line: &str) -> Result<String, AllocError>
 }
 
 // `PEER HEX`
-fn feed_in(alloc: Global, words: &str) -> Result<Option<NodeLine>, AllocError> {
+fn feed_in(alloc: Global, words: &str) -> Result<NodeLine, NodeLineError> {
     let (peer, Some(digits)) = first_word(words) else {
-        return Ok(None);
+        return Err(NodeLineError::NoEvent(NoEvent::WrongCount));
     };
     let Some(peer) = number_of(peer) else {
-        return Ok(None);
+        return Err(NodeLineError::NoEvent(NoEvent::NotANumber));
     };
     match hex::decode(alloc, digits) {
-        Ok(piece) => Ok(Some(NodeLine::Feed { peer, piece })),
-        Err(hex::FromHexError::OutOfMemory) => Err(AllocError),
-        Err(_) => Ok(None),
+        Ok(piece) => Ok(NodeLine::Feed { peer, piece }),
+        Err(hex::FromHexError::OutOfMemory) => Err(NodeLineError::Memory),
+        Err(_) => Err(NodeLineError::NotHexadecimal),
     }
 }
 
@@ -98,12 +133,15 @@ fn event_line(
     tick: u64,
     tokens: u64,
     event: ScriptEvent,
-) -> Result<Option<ReadNodeLine>, AllocError> {
+) -> Result<ReadNodeLine, NodeLineError> {
     let tokens = tokens_behind(&event, tokens);
     let Some(event) = event_of(alloc, tick, tokens, event)? else {
-        return Ok(None);
+        return Err(FOREIGN);
     };
-    Ok(of_node(event).map(|line| ReadNodeLine { line, tokens }))
+    match of_node(event) {
+        Some(line) => Ok(ReadNodeLine { line, tokens }),
+        None => Err(FOREIGN),
+    }
 }
 
 // What a line of a cluster's script says of this node.
@@ -112,34 +150,32 @@ fn line_in(
     tick: u64,
     tokens: u64,
     bytes: &[u8],
-) -> Result<Option<ReadNodeLine>, AllocError> {
-    let line = match read_line(alloc, bytes) {
-        Ok(ScriptLine::Skipped) => NodeLine::Skipped,
-        Ok(ScriptLine::Now { tick }) => NodeLine::Now { tick },
-        Ok(ScriptLine::Total { node: _, group }) => NodeLine::Total { group },
-        Ok(ScriptLine::Happens(event)) => return event_line(alloc, tick, tokens, event),
-        Ok(ScriptLine::Nodes { .. } | ScriptLine::Fuse { .. }) => return Ok(None),
-        Err(ReadLineError::NoEvent(_)) => return Ok(None),
-        Err(ReadLineError::Memory) => return Err(AllocError),
+) -> Result<ReadNodeLine, NodeLineError> {
+    let line = match read_line(alloc, bytes)? {
+        ScriptLine::Skipped => NodeLine::Skipped,
+        ScriptLine::Now { tick } => NodeLine::Now { tick },
+        ScriptLine::Total { node: _, group } => NodeLine::Total { group },
+        ScriptLine::Happens(event) => return event_line(alloc, tick, tokens, event),
+        ScriptLine::Nodes { .. } | ScriptLine::Fuse { .. } => return Err(FOREIGN),
     };
-    Ok(Some(ReadNodeLine { line, tokens }))
+    Ok(ReadNodeLine { line, tokens })
 }
 
-/// What the bytes of a line say at this tick, behind so many tokens; none where they are no event of a
-/// node.
+/// What the bytes of a line say at this tick, behind so many tokens (own). They come without their
+/// newline. An `Err` says why they are no event of a node, or that memory is missing.
 pub fn read_node_line(
     alloc: Global,
     node: u64,
     tick: u64,
     tokens: u64,
     bytes: &[u8],
-) -> Result<Option<ReadNodeLine>, AllocError> {
+) -> Result<ReadNodeLine, NodeLineError> {
     let Ok(text) = str::from_utf8(bytes) else {
-        return Ok(None);
+        return Err(NodeLineError::NoEvent(NoEvent::NotUtf8));
     };
     let (word, rest) = first_word(text);
     if is_foreign(word) {
-        return Ok(None);
+        return Err(FOREIGN);
     }
     if is_of_all(word) {
         return line_in(alloc, tick, tokens, bytes);
@@ -147,7 +183,7 @@ pub fn read_node_line(
     match (word, rest) {
         ("feed", Some(words)) => {
             let line = feed_in(alloc, words)?;
-            Ok(line.map(|line| ReadNodeLine { line, tokens }))
+            Ok(ReadNodeLine { line, tokens })
         }
         _ => {
             let whole = with_node(alloc, node, text)?;

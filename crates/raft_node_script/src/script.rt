@@ -2,7 +2,7 @@
 
 use crate::answers::{cleaned_text, done_text, fault_text, fed_text, unopened_text};
 use crate::home::NodeHome;
-use crate::lines::{NodeLine, ReadNodeLine, read_node_line};
+use crate::lines::{NodeLine, NodeLineError, ReadNodeLine, read_node_line};
 use raft_conditions::GroupCommand;
 use raft_group_storage::GroupStorage;
 use raft_machines::AddingMachine;
@@ -180,13 +180,14 @@ impl<H: NodeHome> LineRunner for NodeScript<H> {
         rt: &R,
         line: &[u8],
     ) -> Result<Option<String>, AllocError> {
-        match read_node_line(self.alloc, self.id, self.tick, self.tokens, line)? {
-            Some(ReadNodeLine { line, tokens }) => {
+        match read_node_line(self.alloc, self.id, self.tick, self.tokens, line) {
+            Ok(ReadNodeLine { line, tokens }) => {
                 let text = self.take(rt, line)?;
                 self.tokens = tokens;
                 Ok(Some(text))
             }
-            None => Ok(None),
+            Err(NodeLineError::Memory) => Err(AllocError),
+            Err(_) => Ok(None),
         }
     }
 }

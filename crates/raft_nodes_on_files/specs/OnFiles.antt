@@ -5,7 +5,7 @@ use Rattle.raft_log_disk.specs.MemorySystem.{disk_in, is_bounded_in, meter_in}
 use Rattle.raft_log_disk.specs.declared.crash.CrashChoice.{CrashChoice as FileChoice}
 use Rattle.raft_log_disk.specs.declared.crash.CrashRefusal.{CrashRefusal as FileRefusal}
 use Rattle.raft_log_engine.specs.Left.{answers_on}
-use Rattle.raft_log_engine.specs.Log.{CantBeLeftSo, leaves_of_log}
+use Rattle.raft_log_engine.specs.Log.{CantBeLeftSo, IsCrashedLog, IsFusedLog, leaves_of_log}
 use Rattle.raft_log_engine.specs.Met.{Meets}
 use Rattle.raft_log_engine.specs.declared.fault.EngineFault.{EngineFault}
 use Rattle.raft_log_engine.specs.declared.memory.LogFiles.{LogFiles}
@@ -18,7 +18,7 @@ use Rattle.raft_node.specs.declared.outcome.Outcome.{Outcome}
 use Rattle.raft_store.specs.declared.fault.StoreFault.{StoreFault}
 use Rattle.raft_store.specs.declared.store.Store.{Store}
 use Rattle.raft_nodes_on_logs.specs.Acts as over
-use Rattle.raft_node_logs.specs.Files.{IsFoundAs, IsNotOpened, cause_of_log, choice_in, refusal_in}
+use Rattle.raft_node_logs.specs.Files.{AreFusedFiles, ChoosesSo, IsFoundAs, IsNotOpened, IsOpenedLog, RefuseNothing, cause_of_log, files_in, refusal_in}
 use Rattle.raft_nodes_on_logs.specs.Kinds.{NodeKind}
 
 -- one of this machine, over a log on files
@@ -37,20 +37,26 @@ on_files {M = M} machine rules state = record {
   is_sound = λ l. l.has_failed ≡ false;
   answers = λ l. answers_on disk_in l.engine;
   leaves = λ l content. leaves_of_log disk_in l content;
-  meets = λ old new met. Meets is_bounded_in meter_in old new met;
+  meets = λ old new met. Meets disk_in is_bounded_in meter_in old new met;
   refuses = λ l choice why. CantBeLeftSo choice why (disk_in l.engine.files);
+  crashed = λ old choice new. IsCrashedLog disk_in meter_in old choice new;
+  fused = λ old first new. IsFusedLog disk_in meter_in old first new;
+  opens = λ files log. IsOpenedLog files log;
+  fresh = λ files. RefuseNothing files;
+  hands_back = λ log files. files ≡ files_in log;
+  fused_files = λ old first new. AreFusedFiles old first new;
   found = λ files content. IsFoundAs files content;
   unopened = λ old cause new. IsNotOpened old cause new;
   cause = cause_of_log;
-  choice = choice_in;
+  chooses = λ asked chosen. ChoosesSo asked chosen;
   refusal = refusal_in;
 }
 
 abbrev pub UpNode : (M : Type 0) → Ghosts M → Type 0
 UpNode M g = Node M (Store M MemoryLog EngineFault) (StoreFault EngineFault) g
 
-abbrev pub IsLeftOpening : MachineRules → LogFiles → ℕ → Stop → LogFiles → Type 0
-IsLeftOpening rules old id stop new = over.IsLeftOpening rules (λ files content. IsFoundAs files content) cause_of_log old id stop new
+abbrev pub IsLeftOpening : {M : Type 0} (g : Ghosts M) (rules : MachineRules) (state : M → List ℕ) → LogFiles → ℕ → Stop → LogFiles → Type 0
+IsLeftOpening g rules state old id stop new = over.IsLeftOpening (on_files g rules state) old id stop new
 
 module _ {M : Type 0} {g : Ghosts M} (rules : MachineRules) (state : M → List ℕ) where
   abbrev pub IsOpened : LogFiles → ℕ → UpNode M g → List Outcome → Type 0

@@ -42,9 +42,9 @@ pub fn run_on_files<M: StateMachine, R: Threads + Sync>(
 }
 
 /// Runs the events of a round on threads, each for another node on files, and says how many happened
-/// (own): all but crashes for which their nodes lack memory. What comes of it is what `run_on_files`
-/// gives on these events in their order, and the lists behind it are those of which the headline speaks.
-/// An `Err` changes nothing: C8 where the events are no round, else C10.
+/// (own): the round ends before the first crash for which its node lacks memory, as `run_on_files` does.
+/// What comes of it is what that gives on these events in their order, and the lists behind it are those
+/// of which the headline speaks. An `Err` changes nothing: C8 where the events are no round, else C10.
 pub fn run_round_on_files<M: StateMachine + Send, R: Threads + Sync>(
     rt: &R,
     cluster: &mut ListedCluster<FileNode<M>>,

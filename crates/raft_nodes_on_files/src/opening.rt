@@ -29,7 +29,7 @@ pub fn open_node<M: StateMachine, R: Threads + Sync>(
     workers: u64,
 ) -> Result<Opened<M, Kept<M>>, Unopened<LogFiles>>
     ensures ok { IfOk result (λ o. IsOpened M.rules M.state files id o.node o.outcomes.items) }
-    ensures err { IfErr result (λ u. AreNotOpened files u.stop u.files ⊎ IsLeftOpening M.rules files id u.stop u.files) }
+    ensures err { IfErr result (λ u. AreNotOpened files u.stop u.files ⊎ IsLeftOpening M.StateMachine.own M.rules M.state files id u.stop u.files) }
 {
     open_over_log::<M, MemoryLog, R>(rt, alloc, id, files, workers)
 }

@@ -5,6 +5,7 @@ use Rattle.raft_group_step.specs.StoredGroup.{StoredGroup}
 use Rattle.raft_group_storage.specs.Keeping.{KeepsAll, Shows}
 use Rattle.raft_log_memtables.specs.Content.{Content}
 use Rattle.raft_node.specs.Opening.{HasNotOpened}
+use Rattle.raft_node_faults.specs.Fault.{fault_met_by_node}
 use Rattle.raft_node_faults.specs.declared.fault.Fault.{Fault}
 use Rattle.raft_cluster_events.specs.declared.outcome.NodeError.{NodeError}
 use Rattle.raft_cluster_events.specs.declared.outcome.NodeError.TheVariants as error
@@ -17,7 +18,7 @@ use Rattle.raft_cluster_events.specs.declared.node.NodeOutcome.{NodeOutcome}
 use Rattle.raft_node.specs.Feeding.{StaysBut}
 use Rattle.raft_node.specs.Settling.{IsStorageStop}
 use Rattle.raft_node.specs.Waiting.{waiting_of}
-use Rattle.raft_nodes_on_logs.specs.Acts.{AreHandedBack, CleansAs, FailsTo, FusesAs, IsFedOn, IsOpened, IsPassed, IsUpAs, ReopensTo, WhenDown, WhenUp, refused, some_outcome}
+use Rattle.raft_nodes_on_logs.specs.Acts.{AnswersLast, AreHandedBack, CleansAs, FailsTo, FusesAs, IsFedOn, IsOpened, IsPassed, IsUpAs, Meets, ReopensTo, WhenDown, WhenUp, refused, some_outcome}
 use Rattle.raft_cluster_events.specs.declared.outcome.StopCause.{StopCause}
 use Rattle.raft_cluster_events.specs.declared.outcome.StopCause.TheVariants as stop_cause
 use Rattle.raft_store.specs.declared.fault.StoreFault.{StoreFault}
@@ -111,19 +112,27 @@ module _ (k : NodeKind) where
   passed_from old before new mid (Ok o) answer id (inr s) = inr (record { failed = s.failed; why = s.why; fails = s.fails; answer = s.answer; up = (s.up.0 ∙ id, s.up.1) })
   passed_from old before new mid (Err why) answer id (is, up) = (is, (up.0 ∙ id, up.1))
 
+  last_from : (old before new : NodeOf k) (mid : UpNode k) (o : Outcome) (os : List Outcome) (answer : Result (Option NodeOutcome) NodeError) → before.id ≡ old.id
+      → AnswersLast k before mid o os answer new → AnswersLast k old mid o os answer new
+  last_from old before new mid o [] answer id (one, passed, is) = (one, passed_from old before new mid (Ok o) one id passed, is)
+  last_from old before new mid o (p ∷ os) answer id fed = last_from old before new mid p os answer id fed
+
   pub fed_from : (old before new : NodeOf k) (mid : UpNode k) (outcomes : List Outcome) (met : Option (Fault (KeepingFault k))) (answer : Result (Option NodeOutcome) NodeError) → before.id ≡ old.id
       → IsFedOn k before mid outcomes met answer new → IsFedOn k old mid outcomes met answer new
   fed_from old before new mid outcomes (Some why) answer id (is, up) = (is, (up.0 ∙ id, up.1))
   fed_from old before new mid [] None answer id (is, up) = (is, (up.0 ∙ id, up.1))
-  fed_from old before new mid (o ∷ []) None answer id (one, passed, is) = (one, passed_from old before new mid (Ok o) one id passed, is)
-  fed_from old before new mid (o ∷ p ∷ os) None answer id fed = tt
+  fed_from old before new mid (o ∷ os) None answer id fed = last_from old before new mid o os answer id fed
 
-  -- the last outcome is the only one
+  -- the last outcome is answered
+  last_behind : (old new : NodeOf k) (mid : UpNode k) (first : Outcome) (rest : List Outcome) (o : Outcome) (one : Result NodeOutcome NodeError) (answer : Result (Option NodeOutcome) NodeError)
+      → IsPassed k old mid (Ok o) one new → answer ≡ some_outcome one → AnswersLast k old mid first (rest ++ o ∷ []) answer new
+  last_behind old new mid first [] o one answer passed is = (one, passed, is)
+  last_behind old new mid first (p ∷ rest) o one answer passed is = last_behind old new mid p rest o one answer passed is
+
   last_fed : (old new : NodeOf k) (mid : UpNode k) (rest : List Outcome) (o : Outcome) (one : Result NodeOutcome NodeError) (answer : Result (Option NodeOutcome) NodeError)
       → IsPassed k old mid (Ok o) one new → answer ≡ some_outcome one → IsFedOn k old mid (rest ++ o ∷ []) None answer new
   last_fed old new mid [] o one answer passed is = (one, passed, is)
-  last_fed old new mid (p ∷ []) o one answer passed is = tt
-  last_fed old new mid (p ∷ q ∷ rest) o one answer passed is = tt
+  last_fed old new mid (p ∷ rest) o one answer passed is = last_behind old new mid p rest o one answer passed is
 
   pub fed_last : (old new : NodeOf k) (mid : UpNode k) (outcomes rest : List Outcome) (o : Outcome) (one : Result NodeOutcome NodeError) (answer : Result (Option NodeOutcome) NodeError)
       → outcomes ≡ rest ++ o ∷ [] → IsPassed k old mid (Ok o) one new → answer ≡ some_outcome one → IsFedOn k old mid outcomes None answer new
@@ -170,8 +179,8 @@ module _ (k : NodeKind) where
       → IsUpAs k old new m → (n.groups.has_failed ≡ true → (result ≡ Err fault.Failed) × (m ≡ n))
       → (n.groups.has_failed ≡ false → IsStorageStop (λ group. waiting_of (running_in k.state n.machines group)) why)
       → (n.groups.has_failed ≡ false → m.groups ≡ record n.groups { storage = m.groups.storage; has_failed = true })
-      → KeepsAll (shows k n.groups.storage) (shows k m.groups.storage) → CleansAs k n old (Err met) new
-  not_cleaned n m old new result why met is says up failed stops stopped kept = go n.groups.has_failed refl
+      → KeepsAll (shows k n.groups.storage) (shows k m.groups.storage) → Meets k n m (fault_met_by_node result) → CleansAs k n old (Err met) new
+  not_cleaned n m old new result why met is says up failed stops stopped kept caused = go n.groups.has_failed refl
     where
       go : (b : Bool) → n.groups.has_failed ≡ b → CleansAs k n old (Err met) new
       go true has = inl (record {
@@ -184,6 +193,7 @@ module _ (k : NodeKind) where
         why = why;
         going = going;
         stops = stops_cleaning n m why (stopped going) kept (stops going);
+        caused = subst (λ r. Meets k n m (fault_met_by_node r)) is caused;
         named = says;
         up = up;
       })
@@ -192,8 +202,8 @@ module _ (k : NodeKind) where
       → (value k m).streams peer ≡ (value k n).streams peer
   same_streams n m same peer = ap (λ (x : UpNode k). feeding_of (get nat_cmp x.feeders peer)) same
 
-  pub fuses_as : (old new : NodeOf k) (up was : Option (UpNode k)) → was ≡ up → FusesAs k old new up → FusesAs k old new was
-  fuses_as old new up was is f = subst (FusesAs k old new) (sym is) f
+  pub fuses_as : (old new : NodeOf k) (first : Option ℕ) (up was : Option (UpNode k)) → was ≡ up → FusesAs k old first new up → FusesAs k old first new was
+  fuses_as old new first up was is f = subst (FusesAs k old first new) (sym is) f
 
   -- a node that is down is opened so
   pub opened_or_not : (up : Option (UpNode k)) (act answer : Type 0) → up ≡ None → act → WhenDown k up act answer
@@ -210,15 +220,17 @@ module _ (k : NodeKind) where
   -- an opening that did this, and what it is answered
   pub reopened_so : (old new : NodeOf k) (n : UpNode k) (did : List Outcome) (answered : Result (List NodeOutcome) Stop) → IsOpened k old.files old.id n did → old.up ≡ None
       → new.id ≡ old.id → IfOk answered (λ outcomes. outcomes ≡ map node_outcome did) → OnOk answered (new.up ≡ Some n) → IfErr answered (λ stop. stop ≡ quiet_stop stop_cause.Memory)
-      → OnErr answered (new.up ≡ old.up) → OnErr answered (AreHandedBack k n new.files) → ReopensTo k old answered new
-  reopened_so old new n did (Ok outcomes) opened none id says up err down files = record { n = n; did = did; opened = opened; answer = says; up = (id, up) }
-  reopened_so old new n did (Err stop) opened none id says up err down files = (
+      → OnErr answered (new.up ≡ old.up) → OnErr answered (AreHandedBack k n new.files) → OnErr answered (k.hands_back n.groups.storage.log new.files) → ReopensTo k old answered new
+  reopened_so old new n did (Ok outcomes) opened none id says up err down files back = record { n = n; did = did; opened = opened; answer = says; up = (id, up) }
+  reopened_so old new n did (Err stop) opened none id says up err down files back = (
     record { id = id; down = down ∙ none },
     inr (inr (record {
       n = n;
       did = did;
       opened = opened;
       named = subst (λ s. NamesNobody (names_of s)) (sym err) (λ h. refl);
+      memory = ap (λ (s : Stop). s.cause) err;
       shown = files;
+      hands_back = back;
     })),
   )

@@ -36,7 +36,7 @@ use Rattle.raft_store.specs.Reading.{StandsFor}
 use Rattle.raft_wire.specs.Frames.{spelled_frame, spelled_rest}
 use Rattle.raft_wire.specs.declared.frame.Frame.{Frame}
 use Rattle.raft_wire.specs.Stream.{fresh}
-use Rattle.raft_nodes_on_logs.specs.Acts.{AddsTo, AsksTo, CleansAs, FusesAs, GoesDown, IsUpAs, OpensTo, ReopensTo, ResetsTo, WhenDown, WhenUp, log_node_acts, log_node_states, refused}
+use Rattle.raft_nodes_on_logs.specs.Acts.{AddsTo, AsksTo, CleansAs, CrashesTo, FusesAs, GoesDown, IsUpAs, OpensTo, ReopensTo, ResetsTo, WhenDown, WhenUp, log_node_acts, log_node_states, refused}
 use Rattle.raft_nodes_on_logs.specs.Kept.{KeepingFault}
 use Rattle.raft_nodes_on_logs.specs.Kinds.{NodeKind}
 use Rattle.raft_nodes_on_logs.specs.Standing.{MayBeUp, NodeOf, UpNode, value}
@@ -188,9 +188,9 @@ module _ (k : NodeKind) (begins : KeepsItsLaw k.rules k.rules.first) (restores :
 
   -- ---- a fuse
 
-  fuses_by : (old new : NodeOf k) (up : Option (UpNode k)) → old.up ≡ up → FusesAs k old new up → On (Fuse old.id) old new (λ o. o ≡ Done silent)
-  fuses_by old new None down f ids history olds kind behind = fused_led k begins restores old down ids history olds behind new f
-  fuses_by old new (Some n) up f ids history olds kind behind =
+  fuses_by : (old new : NodeOf k) (first : Option ℕ) (up : Option (UpNode k)) → old.up ≡ up → FusesAs k old first new up → On (Fuse old.id) old new (λ o. o ≡ Done silent)
+  fuses_by old new first None down f ids history olds kind behind = fused_led k begins restores old down ids history olds behind new first f
+  fuses_by old new first (Some n) up f ids history olds kind behind =
       let at = λ (h : ℕ). is_up_in k begins restores old n up h (olds h) (behind.may_be h) in
       led k old new f.mid (of n) history (λ i. Fuse i) false (Done silent) olds (λ o. o ≡ Done silent) (at 0).own f.up f.stays.own
       (λ going peer. f.streams peer ∙ (at 0).streams (sym f.stays.has_failed ∙ going) peer)
@@ -198,15 +198,15 @@ module _ (k : NodeKind) (begins : KeepsItsLaw k.rules k.rules.first) (restores :
       (fuses_lead k.rules (of n) (of f.mid) history 0 olds f.stays (λ h. (at h).may_be))
 
   fuses : (old new : NodeOf k) (first : Option ℕ) → (log_node_acts k).fuses old first new → On (Fuse old.id) old new (λ o. o ≡ Done silent)
-  fuses old new first acts = fuses_by old new old.up refl acts
+  fuses old new first acts = fuses_by old new first old.up refl acts
 
   -- ---- crashes and openings
 
   crashes : (old new : NodeOf k) (choice : CrashChoice) → (log_node_acts k).is_up old ≡ true → (log_node_acts k).crashes old choice new
       → On (Crash old.id) old new (λ o. o ≡ Done silent)
   crashes old new choice is acts ids history olds kind behind =
-      up_one old.up is old new (Unit {0}) (λ n. GoesDown k n old new) acts
-      (λ n up down. crash_led k begins restores old new n up down ids history olds behind)
+      up_one old.up is old new (Unit {0}) (λ n. CrashesTo k n choice old new) acts
+      (λ n up down. crash_led k begins restores old new n choice up down ids history olds behind)
 
   opens_or_not : (old new : NodeOf k) (answered : Result (List NodeOutcome) Stop) → old.up ≡ None → ReopensTo k old answered new
       → On (Reopen old.id) old new (law.SaysOpening (spells_of k.rules) old.id (opening_of answered))
@@ -228,7 +228,7 @@ module _ (k : NodeKind) (begins : KeepsItsLaw k.rules k.rules.first) (restores :
 
   pub keeps_law : KeepsLaw {N = NodeOf k} k.rules (log_node_acts k) (log_node_states k)
   keeps_law = record {
-    begins = λ id node begun. begun.1;
+    begins = λ id node begun. begun.states;
     adds = adds;
     asks = asks;
     delivers = delivers;

@@ -2,6 +2,7 @@
 use Rattle.std.specs.Prelude.{◌≡◌, ◌⊎◌, ℕ, Bool, true, false, List, [], ◌∷◌, ◌==◌, map, Option, Some, None, Result, Ok, Err, Contains, refl}
 use Rattle.std.specs.List.{AllByRecursion, AllZip}
 use Rattle.std.proofs.Common.{inl, inr, sym, ap, ◌∙◌, subst, ⊎_elim, arith}
+use Rattle.raft_cluster_events.specs.declared.event.CrashChoice.{CrashChoice}
 use Rattle.raft_cluster_events.specs.declared.node.NodeOutcome.{NodeOutcome}
 use Rattle.raft_cluster_events.specs.declared.outcome.Stop.{Stop}
 use Rattle.raft_cluster_events.specs.declared.outcome.StopCause.{StopCause}
@@ -36,7 +37,7 @@ use Rattle.raft_node_laws.specs.Saying.{IsOnceEach, names_of}
 use Rattle.raft_node_laws.specs.Saying as law
 use Rattle.raft_store.specs.Reading.{Holds, HoldsOne, StandsFor}
 use Rattle.raft_store.specs.declared.fault.StoreFault.{StoreFault}
-use Rattle.raft_nodes_on_logs.specs.Acts.{AreHandedBack, AreHeld, FusesDown, GoesDown, IsClosedAgain, IsLeftOpening, IsOpened, IsUnopened, OpensTo, StaysDown, log_node_acts, log_node_states}
+use Rattle.raft_nodes_on_logs.specs.Acts.{AreHandedBack, AreHeld, CrashesTo, FusesDown, IsClosedAgain, IsLeftOpening, IsOpened, IsUnopened, OpensTo, StaysDown, log_node_acts, log_node_states}
 use Rattle.raft_nodes_on_logs.specs.Answering.{node_frame, node_outcome, stop_in}
 use Rattle.raft_nodes_on_logs.specs.Kept.{AreShownDown}
 use Rattle.raft_nodes_on_logs.specs.Kinds.{NodeKind}
@@ -120,9 +121,9 @@ module _ (k : NodeKind) (begins : KeepsItsLaw k.rules k.rules.first) (restores :
     leads = λ h. subst (λ i. EventLeads k.rules h i (recorded i (happened i) o) history (olds h) (Down (leads h).one ∷ map Down (leads h).more)) is (leads h).leads;
   }
 
-  pub crash_led : (old new : NodeOf k) (n : UpNode k) → old.up ≡ Some n → GoesDown k n old new
+  pub crash_led : (old new : NodeOf k) (n : UpNode k) (choice : CrashChoice) → old.up ≡ Some n → CrashesTo k n choice old new
       → (ids : List ℕ) (history : List Recorded) (olds : ℕ → List NodeState) → Behind k ids history old olds → Led history (Crash old.id) olds old new (λ o. o ≡ Done silent)
-  crash_led old new n up down ids history olds behind =
+  crash_led old new n choice up down ids history olds behind =
       let at = λ (h : ℕ). is_up_in k begins restores old n up h (olds h) (behind.may_be h) in
       down_led old new (of n).groups.own (of n).groups.shows history (λ i. Crash i) (Done silent) olds (λ o. o ≡ Done silent) (at 0).own down.stays down.shown refl
       (λ h. crashes_lead k.rules (of n) history h (olds h) (at h).may_be)
@@ -192,8 +193,8 @@ module _ (k : NodeKind) (begins : KeepsItsLaw k.rules k.rules.first) (restores :
         })
 
     -- its files get a fuse
-    pub fused_led : (new : NodeOf k) → FusesDown k old new → Led history (Fuse old.id) olds old new (λ o. o ≡ Done silent)
-    fused_led new f =
+    pub fused_led : (new : NodeOf k) (first : Option ℕ) → FusesDown k first old new → Led history (Fuse old.id) olds old new (λ o. o ≡ Done silent)
+    fused_led new first f =
         down_led old new old.id (AreShownDown k old.files) history (λ i. Fuse i) (Done silent) olds (λ o. o ≡ Done silent) refl f.stays
         (λ group parts shown content found. shown content ((f.files content).0 found)) refl
         (λ h. record {
@@ -204,7 +205,7 @@ module _ (k : NodeKind) (begins : KeepsItsLaw k.rules k.rules.first) (restores :
               (down_fuses_lead k.rules h old.id history (down_at h).one (down_at h).more);
         })
 
-    left_led : (new : NodeOf k) (stop : Stop) → StaysDown k old new → IsLeftOpening k.rules k.found k.cause old.files old.id stop new.files → Led history (Reopen old.id) olds old new (λ o. o ≡ Stopped (names_of stop))
+    left_led : (new : NodeOf k) (stop : Stop) → StaysDown k old new → IsLeftOpening k old.files old.id stop new.files → Led history (Reopen old.id) olds old new (λ o. o ≡ Stopped (names_of stop))
     left_led new stop stays l =
         let parts_of = kept l.content l.found in
         let not_opened = l.left parts_of (held l.content l.found) in

@@ -5,16 +5,18 @@ use Rattle.raft_cluster_events.specs.States.{NodeStates}
 use Rattle.raft_cluster_events.specs.declared.event.CrashChoice.{CrashChoice}
 use Rattle.raft_cluster_events.specs.declared.node.NodeOutcome.{NodeOutcome}
 use Rattle.raft_cluster_events.specs.declared.outcome.CrashRefusal.{CrashRefusal}
+use Rattle.raft_cluster_events.specs.declared.outcome.CrashRefusal.TheVariants as crash_refusal
 use Rattle.raft_cluster_events.specs.declared.outcome.NodeError.{NodeError}
 use Rattle.raft_cluster_events.specs.declared.outcome.NodeError.TheVariants as error
 use Rattle.raft_cluster_events.specs.declared.outcome.NodeRefusal.TheVariants as refusal
 use Rattle.raft_cluster_events.specs.declared.outcome.Stop.{Stop}
 use Rattle.raft_cluster_events.specs.declared.outcome.StopCause.{StopCause}
+use Rattle.raft_cluster_events.specs.declared.outcome.StopCause.TheVariants as stop_cause
 use Rattle.raft_group_step.specs.GroupEvent.{Call, GroupCall}
 use Rattle.raft_group_step.specs.StoredGroup.{StoredGroup}
 use Rattle.raft_list_facts.specs.Leads.{leading_of}
 use Rattle.raft_list_facts.specs.declared.leading.Leading.{Leading}
-use Rattle.raft_log_memtables.specs.Content.{Content}
+use Rattle.raft_log_memtables.specs.Content.{Content, nothing}
 use Rattle.raft_machines.specs.Machine.{MachineRules}
 use Rattle.raft_node.specs.Asking.{without_its_why}
 use Rattle.raft_node.specs.Ending.{IsEvent}
@@ -67,15 +69,6 @@ unless_failed true running = None
 pub record AreHeld (rules : MachineRules) (own : ℕ) (content : Content (List ℕ)) (kept : ℕ → StoredGroup) : Type 0 where
   pub held : (group : ℕ) → Holds rules (content group) (kept group)
   pub reached : (group : ℕ) → (kept group).present ≡ true → IsReopened own (kept group)
-
--- the opening of a group stopped, and each group is left so
-pub record IsLeftOpening {Files F : Type 0} (rules : MachineRules) (finds : Files → Content (List ℕ) → Type 0) (cause : F → StopCause)
-    (old : Files) (id : ℕ) (stop : Stop) (new : Files) : Type 0 where
-  pub content : Content (List ℕ)
-  pub found : finds old content
-  pub why : Fault (StoreFault F)
-  pub named : stop ≡ stop_in cause why
-  pub left : (kept : ℕ → StoredGroup) → AreHeld rules id content kept → HasNotOpened id kept (AreShownBy rules finds new) why
 
 module _ (k : NodeKind) where
   abbrev of : UpNode k → NodeValue
@@ -133,12 +126,15 @@ module _ (k : NodeKind) where
     pub part : (frame : Frame) (more : List ℕ) → (of n).groups.has_failed ≡ false → ((of n).streams peer).failed ≡ false → FitsFrame frame → 0 < length more
         → so_far (of n) peer piece ++ more ≡ spelled_frame frame → FeedsPart k.rules (StandsFor k.rules) (of n) (of mid) peer now piece outcomes met used
 
-  -- of more than one outcome nothing is said: no piece ends more than one frame
+  -- what a piece did last is answered: no piece ends more than one frame
+  abbrev pub AnswersLast : NodeOf k → UpNode k → Outcome → List Outcome → Result (Option NodeOutcome) NodeError → NodeOf k → Type 0
+  AnswersLast old mid o [] answered new = (one : Result NodeOutcome NodeError) × IsPassed old mid (Ok o) one new × (answered ≡ some_outcome one)
+  AnswersLast old mid o (p ∷ os) answered new = AnswersLast old mid p os answered new
+
   abbrev pub IsFedOn : NodeOf k → UpNode k → List Outcome → Option (Fault (KeepingFault k)) → Result (Option NodeOutcome) NodeError → NodeOf k → Type 0
   IsFedOn old mid outcomes (Some why) answered new = (answered ≡ Err (error_of k.cause why)) × IsUpAs old new mid
   IsFedOn old mid [] None answered new = (answered ≡ Ok None) × IsUpAs old new mid
-  IsFedOn old mid (o ∷ []) None answered new = (one : Result NodeOutcome NodeError) × IsPassed old mid (Ok o) one new × (answered ≡ some_outcome one)
-  IsFedOn old mid (o ∷ p ∷ os) None answered new = Unit {0}
+  IsFedOn old mid (o ∷ os) None answered new = AnswersLast old mid o os answered new
 
   pub record FeedsTo (n : UpNode k) (peer : ℕ) (piece : List ℕ) (now : ℕ) (old : NodeOf k) (answered : Result (Option NodeOutcome) NodeError) (new : NodeOf k) : Type 0 where
     pub mid : UpNode k
@@ -162,16 +158,18 @@ module _ (k : NodeKind) where
     pub mid : UpNode k
     pub going : (of n).groups.has_failed ≡ false
     pub rising : AreRising groups
+    pub met : Meets n mid None
     pub stays : StaysBut (of n) (of mid) 0
     pub streams : (peer : ℕ) → (of mid).streams peer ≡ (of n).streams peer
     pub up : IsUpAs old new mid
 
-  -- its storage fails in that, and it stops
+  -- its storage fails in that, for the fault that its log's calls met, and it stops
   pub record StopsInCleaning (n : UpNode k) (old : NodeOf k) (met : NodeError) (new : NodeOf k) : Type 0 where
     pub failed : UpNode k
     pub why : Fault (KeepingFault k)
     pub going : (of n).groups.has_failed ≡ false
     pub stops : StopsCleaning (of n) (of failed) why
+    pub caused : Meets n failed (storage_fault_of why)
     pub named : met ≡ error_of k.cause why
     pub up : IsUpAs old new failed
 
@@ -192,9 +190,10 @@ module _ (k : NodeKind) where
     pub named : stop ≡ stop_in k.cause why
     pub up : IsUpAs old new failed
 
-  -- all stays but what its files refuse
-  pub record FusesTo (n : UpNode k) (old new : NodeOf k) : Type 0 where
+  -- all stays but what its files refuse: each changing call from this one on
+  pub record FusesTo (n : UpNode k) (first_refused : Option ℕ) (old new : NodeOf k) : Type 0 where
     pub mid : UpNode k
+    pub fused : k.fused n.groups.storage.log first_refused mid.groups.storage.log
     pub stays : StaysBut (of n) (of mid) 0
     pub streams : (peer : ℕ) → (of mid).streams peer ≡ (of n).streams peer
     pub up : IsUpAs old new mid
@@ -209,6 +208,23 @@ module _ (k : NodeKind) where
     pub content : Content (List ℕ)
     pub found : k.found files content
     pub opened : (kept : ℕ → StoredGroup) → AreHeld k.rules id content kept → HasOpened k.rules (StandsFor k.rules) kept (of n) did
+    -- on a log of these files, whose calls met no fault
+    pub log : k.Log
+    pub opens : k.opens files log
+    pub met : k.meets log n.groups.storage.log None
+
+  -- the opening of a group stopped for a fault that the log's calls met, and each group is left so
+  pub record IsLeftOpening (old : k.Files) (id : ℕ) (stop : Stop) (new : k.Files) : Type 0 where
+    pub content : Content (List ℕ)
+    pub found : k.found old content
+    pub why : Fault (KeepingFault k)
+    pub named : stop ≡ stop_in k.cause why
+    pub left : (kept : ℕ → StoredGroup) → AreHeld k.rules id content kept → HasNotOpened id kept (AreShownBy k.rules k.found new) why
+    pub log : k.Log
+    pub opens : k.opens old log
+    pub behind : k.Log
+    pub met : k.meets log behind (option_and_then log_fault (storage_fault_of why))
+    pub hands_back : k.hands_back behind new
 
   -- the files of a node that goes down show what it showed of its groups
   abbrev pub AreHandedBack : UpNode k → k.Files → Type 0
@@ -220,11 +236,13 @@ module _ (k : NodeKind) where
     pub did : List Outcome
     pub opened : IsOpened old id n did
     pub named : NamesNobody (names_of stop)
+    pub memory : stop.cause ≡ stop_cause.Memory
     pub shown : AreHandedBack n new
+    pub hands_back : k.hands_back n.groups.storage.log new
 
   -- the files weren't opened, or not for long
   abbrev pub IsUnopened : k.Files → ℕ → Stop → k.Files → Type 0
-  IsUnopened old id stop new = IsRefusedOpening k.found k.unopened old stop new ⊎ IsLeftOpening k.rules k.found k.cause old id stop new ⊎ IsClosedAgain old id stop new
+  IsUnopened old id stop new = IsRefusedOpening k.found k.unopened old stop new ⊎ IsLeftOpening old id stop new ⊎ IsClosedAgain old id stop new
 
   pub record StaysDown (old new : NodeOf k) : Type 0 where
     pub id : new.id ≡ old.id
@@ -241,23 +259,55 @@ module _ (k : NodeKind) where
   ReopensTo old (Ok outcomes) new = OpensTo old outcomes new
   ReopensTo old (Err stop) new = StaysDown old new × IsUnopened old.files old.id stop new.files
 
+  -- a node begins: files that have nothing, and refuse nothing, were opened for it
+  pub record BeginsAs (own : ℕ) (new : NodeOf k) : Type 0 where
+    pub id : new.id ≡ own
+    pub states : (group : ℕ) → log_node_may_be k new group (first_state (is_some new.up) ∷ [])
+    pub old : NodeOf k
+    pub named : old.id ≡ own
+    pub fresh : k.fresh old.files
+    pub empty : (content : Content (List ℕ)) → k.found old.files content → content ≡ nothing
+    pub answered : Result (List NodeOutcome) Stop
+    pub opens : ReopensTo old answered new
+
+  -- it goes down with its log's files as they are
   pub record GoesDown (n : UpNode k) (old new : NodeOf k) : Type 0 where
     pub stays : StaysDown old new
     pub shown : AreHandedBack n new.files
+    pub hands_back : k.hands_back n.groups.storage.log new.files
 
-  -- its log can't be left so; one that is down has none that a crash could change
+  -- its machine stopped, and left of the log's files what was chosen
+  pub record CrashesTo (n : UpNode k) (choice : CrashChoice) (old new : NodeOf k) : Type 0 where
+    pub stays : StaysDown old new
+    pub shown : AreHandedBack n new.files
+    pub chosen : k.Choice
+    pub says : k.chooses choice chosen
+    pub left : k.Log
+    pub crashed : k.crashed n.groups.storage.log chosen left
+    pub hands_back : k.hands_back left new.files
+
+  -- its log can't be left so, for this reason
+  pub record CantCrash (n : UpNode k) (choice : CrashChoice) (why : CrashRefusal) : Type 0 where
+    pub chosen : k.Choice
+    pub says : k.chooses choice chosen
+    pub met : k.Refusal
+    pub named : why ≡ k.refusal met
+    pub refuses : k.refuses n.groups.storage.log chosen met
+
+  -- memory is missing, or its log can't be left so; one that is down has none that a crash could change
   abbrev pub RefusesCrash : Option (UpNode k) → CrashChoice → CrashRefusal → Type 0
   RefusesCrash None choice why = ⊥
-  RefusesCrash (Some n) choice why = (met : k.Refusal) × (why ≡ k.refusal met) × k.refuses n.groups.storage.log (k.choice choice) met
+  RefusesCrash (Some n) choice why = (why ≡ crash_refusal.Memory) ⊎ CantCrash n choice why
 
   -- so it is of the files of a node that is down
-  pub record FusesDown (old new : NodeOf k) : Type 0 where
+  pub record FusesDown (first_refused : Option ℕ) (old new : NodeOf k) : Type 0 where
     pub stays : StaysDown old new
+    pub fused : k.fused_files old.files first_refused new.files
     pub files : FindsSame k.found old.files new.files
 
-  abbrev pub FusesAs : NodeOf k → NodeOf k → Option (UpNode k) → Type 0
-  FusesAs old new None = FusesDown old new
-  FusesAs old new (Some n) = FusesTo n old new
+  abbrev pub FusesAs : NodeOf k → Option ℕ → NodeOf k → Option (UpNode k) → Type 0
+  FusesAs old first_refused new None = FusesDown first_refused old new
+  FusesAs old first_refused new (Some n) = FusesTo n first_refused old new
 
   -- ---- readers
 
@@ -287,15 +337,15 @@ module _ (k : NodeKind) where
   log_node_acts = record {
     id = λ n. n.id;
     is_up = λ n. is_some n.up;
-    begins = λ id n. (n.id ≡ id) × ((group : ℕ) → log_node_may_be k n group (first_state (is_some n.up) ∷ []));
+    begins = λ id n. BeginsAs id n;
     adds = λ old group answered new. WhenUp old new old.up (answered ≡ refused) (λ n. AddsTo n group old answered new);
     asks = λ old group call now answered new. WhenUp old new old.up (answered ≡ refused) (λ n. AsksTo n group call now old answered new);
     feeds = λ old peer piece now answered new. WhenUp old new old.up (answered ≡ refused) (λ n. FeedsTo n peer piece now old answered new);
     resets = λ old peer answered new. WhenUp old new old.up (answered ≡ refused) (λ n. ResetsTo n peer old answered new);
     cleans = λ old answered new. WhenUp old new old.up (answered ≡ refused) (λ n. CleansAs n old answered new);
     fails = λ old stop new. WhenUp old new old.up (NamesNobody (names_of stop)) (λ n. FailsTo n old stop new);
-    fuses = λ old first new. FusesAs old new old.up;
-    crashes = λ old choice new. WhenUp old new old.up (Unit {0}) (λ n. GoesDown n old new);
+    fuses = λ old first new. FusesAs old first new old.up;
+    crashes = λ old choice new. WhenUp old new old.up (Unit {0}) (λ n. CrashesTo n choice old new);
     refuses = λ old choice why. RefusesCrash old.up choice why;
     reopens = λ old workers answered new. WhenDown old.up (ReopensTo old answered new) ((new ≡ old) × (answered ≡ Ok []));
     closes = λ old new. WhenUp old new old.up (Unit {0}) (λ n. GoesDown n old new);

@@ -29,13 +29,21 @@ pub record NodeKind : Type 1 where
   pub leaves : Log → Leaves
   pub meets : Log → Log → Option Fault → Type 0
   pub refuses : Log → Choice → Refusal → Type 0
+  -- what it is behind a crash that left what was chosen, and behind a fuse
+  pub crashed : Log → Choice → Log → Type 0
+  pub fused : Log → Option ℕ → Log → Type 0
+  -- the log that an opening makes of files, files that refuse nothing, the files of a log, and files behind a fuse
+  pub opens : Files → Log → Type 0
+  pub fresh : Files → Type 0
+  pub hands_back : Log → Files → Type 0
+  pub fused_files : Files → Option ℕ → Files → Type 0
   -- what an opening finds of files
   pub found : Files → Content (List ℕ) → Type 0
   -- why they aren't opened, and what they are then
   pub unopened : Files → StopCause → Files → Type 0
   -- a cluster's words
   pub cause : Fault → StopCause
-  pub choice : CrashChoice → Choice
+  pub chooses : CrashChoice → Choice → Type 0
   pub refusal : Refusal → CrashRefusal
 
 -- that of a machine and a log
@@ -57,9 +65,15 @@ kind_of {Machine = Machine} {Log = Log} {Fault = Fault} {Files = Files} {Setting
   leaves = log.leaves;
   meets = log.meets;
   refuses = crash.refuses;
+  crashed = crash.crashed;
+  fused = crash.fused;
+  opens = node.opens;
+  fresh = node.fresh;
+  hands_back = node.hands_back;
+  fused_files = node.fused_files;
   found = node.found;
   unopened = node.unopened;
   cause = node.cause;
-  choice = node.choice;
+  chooses = node.chooses;
   refusal = node.refusal;
 }

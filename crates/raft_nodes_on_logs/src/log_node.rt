@@ -117,6 +117,7 @@ impl<M: StateMachine, L: NodeLog> LogNode<M, L> {
         ensures err { IfErr result (λ stop. stop ≡ quiet_stop Memory) }
         ensures down { OnErr result (self.new.up ≡ self.old.up) }
         ensures files { OnErr result (AreHandedBack (kind_of M.StateMachine.own L.ContentLog.own L.CrashLog.own L.NodeLog.own) opened.node self.new.files) }
+        ensures hands_back { OnErr result (L.hands_back opened.node.groups.storage.log self.new.files) }
     {
         let Opened { node, outcomes } = opened;
         match outcomes_of(self.alloc, outcomes) {
@@ -138,6 +139,7 @@ impl<M: StateMachine, L: NodeLog> LogNode<M, L> {
         ensures id { self.new.id ≡ self.old.id }
         ensures down { self.new.up ≡ None }
         ensures same { self.old.up ≡ None → self.new ≡ self.old }
+        ensures hands_back { IfSome self.old.up (λ n. L.hands_back n.groups.storage.log self.new.files) }
         ensures finds { IfSome self.old.up (λ n. (content : Content (List ℕ)) → L.found self.new.files content → L.finds n.groups.storage.log content) }
         ensures shown { IfSome self.old.up (λ n. AreHandedBack (kind_of M.StateMachine.own L.ContentLog.own L.CrashLog.own L.NodeLog.own) n self.new.files) }
     {
@@ -253,11 +255,14 @@ impl<M: StateMachine, L: NodeLog> ClusterNode for LogNode<M, L> {
         }
     }
 
-    fn crash(&mut self, choice: CrashChoice) -> Result<(), CrashRefusal> {
+    fn crash(&mut self, choice: &CrashChoice) -> Result<(), CrashRefusal> {
         let Some(node) = &mut self.up else {
             return Ok(());
         };
-        match node.crash(&L::choice_of(choice)) {
+        let Ok(chosen) = L::choice_of(self.alloc, choice) else {
+            return Err(CrashRefusal::Memory);
+        };
+        match node.crash(&chosen) {
             Ok(()) => {
                 self.go_down();
                 Ok(())

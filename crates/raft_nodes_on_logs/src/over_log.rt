@@ -23,7 +23,8 @@ pub fn open_over_log<M: StateMachine, L: NodeLog, R: Threads + Sync>(
     workers: u64,
 ) -> Result<Opened<M, Store<M, L>>, Unopened<L::Files>>
     ensures ok { IfOk result (λ o. IsOpened (kind_of M.StateMachine.own L.ContentLog.own L.CrashLog.own L.NodeLog.own) files id o.node o.outcomes.items) }
-    ensures err { IfErr result (λ u. IsRefusedOpening L.found L.unopened files u.stop u.files ⊎ IsLeftOpening M.rules L.found L.cause files id u.stop u.files) }
+    ensures err { IfErr result (λ u. IsRefusedOpening L.found L.unopened files u.stop u.files
+        ⊎ IsLeftOpening (kind_of M.StateMachine.own L.ContentLog.own L.CrashLog.own L.NodeLog.own) files id u.stop u.files) }
 {
     let log = L::open(rt, alloc, files, workers)?;
     match Node::open(alloc, id, Store::new(alloc, log)) {
@@ -38,6 +39,7 @@ pub fn open_over_log<M: StateMachine, L: NodeLog, R: Threads + Sync>(
 /// The files of the node's log, handed back as they are, with no call on them (own), as where its
 /// machine stops.
 pub fn files_back<M: StateMachine, L: NodeLog>(node: Node<M, Store<M, L>>) -> L::Files
+    ensures hands_back { L.hands_back node.groups.storage.log result }
     ensures finds { (content : Content (List ℕ)) → L.found result content → L.finds node.groups.storage.log content }
     ensures shown { AreHandedBack (kind_of M.StateMachine.own L.ContentLog.own L.CrashLog.own L.NodeLog.own) node result }
 {

@@ -30,6 +30,15 @@ impl From<AllocError> for FusedFault {
     }
 }
 
+/// What a crash may leave of a log in memory (own).
+#[derive(Clone, Copy, Debug, PartialEq, Eq)]
+pub enum FusedChoice {
+    /// What is stored.
+    Stored,
+    /// Bytes of files, of which it has none.
+    Bytes,
+}
+
 /// A log in memory (own). A crash keeps what it has. A write is its only changing call: behind a fuse
 /// each is refused, with nothing done. Where another call fails, as for want of memory, the log is lost:
 /// it is never opened again.
@@ -77,9 +86,7 @@ impl FusedLog {
     /// Refuses each write from this one on, the first one counted as 1; with none it refuses none any
     /// more (own). Nothing else changes.
     pub fn set_fuse(&mut self, first_refused: Option<u64>)
-        ensures fuse { self.new.writes_left ≡ left_until first_refused }
-        ensures log { self.new.log ≡ self.old.log }
-        ensures kept { self.new.is_lost ≡ self.old.is_lost }
+        ensures { self.new ≡ record self.old { writes_left = left_until first_refused } }
     {
         self.writes_left = match first_refused {
             Some(first) => Some(first.saturating_sub(1)),
@@ -101,6 +108,9 @@ impl ContentLog for FusedLog {
     ghost leaves = { λ x content. ⟦<PlainLog as ContentLog>⟧.leaves x.log content };
 
     ghost meets = { λ old new met. Meets old.writes_left new.writes_left met };
+
+    // Why the plain log below it refuses isn't promised.
+    ghost is_misuse = { λ fault. ⊥ };
 
     ghost meets_none = { λ x. meets_none x.writes_left };
 
@@ -179,20 +189,28 @@ impl CleanLog for FusedLog {
 }
 
 impl CrashLog for FusedLog {
-    /// Whatever the choice, a crash keeps what is stored.
-    type Choice = ();
+    /// A crash keeps what is stored, or is refused.
+    type Choice = FusedChoice;
 
-    /// None is ever answered.
+    /// `NotAnImage` alone, for bytes of files.
     type Refusal = CrashRefusal;
 
     ghost use Rattle.std.specs.Prelude.{◌≡◌};
+    ghost use Rattle.raft_cluster_events.specs.declared.outcome.CrashRefusal.TheVariants.{NotAnImage};
+    ghost use Rattle.raft_plain_nodes.specs.Fuse.{left_until};
+    ghost use Rattle.raft_plain_nodes.specs.declared.fused_log.FusedChoice.TheVariants.{Bytes, Stored};
 
-    ghost crashed = { λ old new. new ≡ old };
+    ghost crashed = { λ old choice new. (choice ≡ Stored) × (new ≡ old) };
 
-    ghost refuses = { λ log choice why. ⊥ };
+    ghost refuses = { λ log choice why. (choice ≡ Bytes) × (why ≡ NotAnImage) };
 
-    fn crash(&mut self, _choice: &()) -> Result<(), CrashRefusal> {
-        Ok(())
+    ghost fused = { λ old first new. new ≡ record old { writes_left = left_until first } };
+
+    fn crash(&mut self, choice: &FusedChoice) -> Result<(), CrashRefusal> {
+        match choice {
+            FusedChoice::Stored => Ok(()),
+            FusedChoice::Bytes => Err(CrashRefusal::NotAnImage),
+        }
     }
 
     fn fuse(&mut self, first_refused: Option<u64>) {

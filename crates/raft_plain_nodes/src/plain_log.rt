@@ -2,7 +2,7 @@
 ghost use Rattle.std.specs.Prelude.{◌≡◌};
 ghost use Rattle.raft_plain_nodes.specs.Causes.{cause_of_fault};
 
-use crate::fused_log::{FusedFault, FusedLog};
+use crate::fused_log::{FusedChoice, FusedFault, FusedLog};
 use raft_cluster_events::{CrashChoice, CrashRefusal, StopCause};
 use raft_content_log::{ContentLog, PlainFault};
 use raft_node_logs::{NodeLog, Unopened, quiet_stop};
@@ -27,10 +27,11 @@ impl NodeLog for FusedLog {
 
     type Settings = ();
 
-    ghost use Rattle.std.specs.Prelude.{◌≡◌, false, true};
+    ghost use Rattle.std.specs.Prelude.{◌≡◌, None, false, true};
     ghost use Rattle.raft_cluster_events.specs.declared.outcome.StopCause.TheVariants.{Memory};
     ghost use Rattle.std.proofs.Common.{subst};
-    ghost use Rattle.raft_plain_nodes.specs.Causes.{cause_of_fault};
+    ghost use Rattle.raft_plain_nodes.specs.Causes.{ChoosesSo, cause_of_fault};
+    ghost use Rattle.raft_plain_nodes.specs.Fuse.{left_until};
     ghost use Rattle.raft_plain_nodes.specs.declared.fused_log.FusedLog.{FusedLog};
 
     ghost found = { λ files content. (files.is_lost ≡ false) × ⟦<FusedLog as ContentLog>⟧.leaves files content };
@@ -39,13 +40,21 @@ impl NodeLog for FusedLog {
 
     ghost unopened = { λ old cause new. (old.is_lost ≡ true) × (cause ≡ Memory) };
 
+    ghost opens = { λ files log. log ≡ files };
+
+    ghost fresh = { λ files. files.writes_left ≡ None };
+
+    ghost hands_back = { λ log files. files ≡ log };
+
+    ghost fused_files = { λ old first new. new ≡ record old { writes_left = left_until first } };
+
     ghost cause = { cause_of_fault };
 
-    ghost choice = { λ asked. tt };
+    ghost chooses = { λ asked chosen. ChoosesSo asked chosen };
 
     ghost refusal = { λ why. why };
 
-    ghost crashed_left = { λ old new content same found. subst (λ (x : FusedLog). ⟦<FusedLog as ContentLog>⟧.leaves x content) same found.1 };
+    ghost crashed_left = { λ old new choice content same found. subst (λ (x : FusedLog). ⟦<FusedLog as ContentLog>⟧.leaves x content) same.1 found.1 };
 
     fn new_files(alloc: Global, _settings: &()) -> Result<FusedLog, AllocError> {
         Ok(FusedLog::new(alloc))
@@ -83,7 +92,12 @@ impl NodeLog for FusedLog {
         cause_of_fault(fault)
     }
 
-    fn choice_of(_asked: CrashChoice) {}
+    fn choice_of(_alloc: Global, asked: &CrashChoice) -> Result<FusedChoice, AllocError> {
+        match asked {
+            CrashChoice::Least | CrashChoice::Most => Ok(FusedChoice::Stored),
+            CrashChoice::Bytes(_) => Ok(FusedChoice::Bytes),
+        }
+    }
 
     fn refusal_of(why: CrashRefusal) -> CrashRefusal {
         why

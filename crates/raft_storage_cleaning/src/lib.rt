@@ -1,9 +1,10 @@
 //! What is asked of a storage whose log can be cleaned.
 #![tactic(auto)]
 
-ghost use Rattle.std.specs.Prelude.{ℕ, IfOk, None, OnOk};
+ghost use Rattle.std.specs.Prelude.{ℕ, IfOk, OnOk};
 ghost use Rattle.std.specs.List.Sorted.{IsStrictlySortedBy};
 ghost use Rattle.std.specs.Ordering.{nat_cmp};
+ghost use Rattle.std.specs.Result.{result_err};
 ghost use Rattle.raft_group_storage.specs.Keeping.{KeepsAll};
 
 use raft_group_storage::GroupStorage;
@@ -17,5 +18,5 @@ pub trait CleanStorage: GroupStorage {
         ensures rising { IfOk result (λ groups. IsStrictlySortedBy nat_cmp groups.items) }
         ensures well { Self.GroupStorage.is_well self.old → OnOk result (Self.GroupStorage.is_well self.new) }
         ensures kept { KeepsAll (Self.GroupStorage.shows self.old) (Self.GroupStorage.shows self.new) }
-        ensures met { OnOk result (Self.GroupStorage.meets self.old self.new None) };
+        ensures met { Self.GroupStorage.meets self.old self.new (result_err result) };
 }

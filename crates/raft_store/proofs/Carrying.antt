@@ -26,6 +26,7 @@ use Rattle.raft_store.proofs.Reach.{compacted, put_there, reaches_compacted, rea
 module _ (rules : MachineRules) (s : StoredGroup) where
   pub carries_make : Carries rules make_changes s (after_storing MakeGroup s)
   carries_make = record {
+    plain = refl;
     takes = λ g h. (tt, tt);
     holds = λ g h. record {
       present = refl;
@@ -41,6 +42,7 @@ module _ (rules : MachineRules) (s : StoredGroup) where
 
   pub carries_vote : (vote : Vote ℕ) → FitsVote vote → Carries rules (vote_changes vote) s (after_storing (SetVote vote) s)
   carries_vote vote fits = record {
+    plain = refl;
     takes = λ g h. (tt, tt);
     holds = λ g h. record {
       present = h.present;
@@ -56,6 +58,7 @@ module _ (rules : MachineRules) (s : StoredGroup) where
 
   pub carries_snapshot : (x : SnapshotBytes) (y : Snapshot) → FitsSnapshot x → StandsFor rules x y → Carries rules (snapshot_changes x) s (after_storing (SetSnapshot y) s)
   carries_snapshot x y fits stands = record {
+    plain = refl;
     takes = λ g h. (tt, tt);
     holds = λ g h. record {
       present = h.present;
@@ -80,6 +83,7 @@ module _ (rules : MachineRules) (s : StoredGroup) where
 
   pub carries_cut : (place end : ℕ) → end ≡ end_place (after_storing (CutFrom place) s) → end < 2 ^ 64 → Carries rules (end_changes end) s (after_storing (CutFrom place) s)
   carries_cut place end is fits = record {
+    plain = refl;
     takes = λ g h. (tt, tt);
     holds = λ g h. record {
       present = h.present;
@@ -120,6 +124,7 @@ module _ (rules : MachineRules) (s : StoredGroup) where
     pub carries_entries : (es : List Entry) (end : ℕ) → AllByRecursion FitsEntry es → end ≡ place + length es → end < 2 ^ 64
         → Carries rules (entry_changes place es end) s (after_storing (PutEntries place es) s)
     carries_entries [] end fits is small = record {
+      plain = refl;
       takes = λ g h. (tt, tt);
       holds = λ g h. record {
         present = h.present;
@@ -133,6 +138,7 @@ module _ (rules : MachineRules) (s : StoredGroup) where
       };
     }
     carries_entries (e ∷ es) end fits is small = record {
+      plain = refl;
       takes = λ g h. (takes_on g.entry (first_place s) (end_place s) place h.reach low high, (tt, tt));
       holds = λ g h. record {
         present = h.present;
@@ -164,6 +170,7 @@ module _ (rules : MachineRules) (s : StoredGroup) where
     carries_purge inside =
         let same : end_place s ≡ end_place (after_storing (RemoveUpTo id) s) = omega (arith, kept_end) in
         record {
+          plain = refl;
           takes = λ g h. (tt, (tt, tt));
           holds = λ g h. record {
             present = h.present;
@@ -182,6 +189,7 @@ module _ (rules : MachineRules) (s : StoredGroup) where
     carries_purge_all past small =
         let same : id.index + 1 ≡ end_place (after_storing (RemoveUpTo id) s) = omega (arith, kept_end) in
         record {
+          plain = refl;
           takes = λ g h. (tt, (tt, (tt, tt)));
           holds = λ g h. record {
             present = h.present;
@@ -199,6 +207,7 @@ module _ (rules : MachineRules) (s : StoredGroup) where
     carries_start small =
         let same : id.index + 1 ≡ end_place (after_storing (StartAfter id) s) = omega arith in
         record {
+          plain = refl;
           takes = λ g h. (tt, (tt, (tt, tt)));
           holds = λ g h. record {
             present = h.present;

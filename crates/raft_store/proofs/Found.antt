@@ -32,10 +32,10 @@ pub refused_for_memory : {A Y : Type 0} (result : Result A StoreRefusal) (P : A 
 refused_for_memory (Ok found) P e value is fails = absurd is
 refused_for_memory (Err refused) P e value is fails = is ∙ only_memory e value fails
 
-pub failed_for_memory : {A F : Type 0} (result : Result A (StoreFault F)) (P : A → Type 0) (e : StoreRefusal) → IsErrAnd result (λ fault. fault ≡ Refused e) → e ≡ refusal.Memory
-    → MatchResult result P IsLogOrMemory
-failed_for_memory (Ok found) P e is memory = absurd is
-failed_for_memory (Err fault) P e is memory = subst IsLogOrMemory (sym is) memory
+pub failed_for_memory : {A F : Type 0} (misuse : F → Type 0) (result : Result A (StoreFault F)) (P : A → Type 0) (e : StoreRefusal) → IsErrAnd result (λ fault. fault ≡ Refused e) → e ≡ refusal.Memory
+    → MatchResult result P (IsLogOrMemory misuse)
+failed_for_memory misuse (Ok found) P e is memory = absurd is
+failed_for_memory misuse (Err fault) P e is memory = subst (IsLogOrMemory misuse) (sym is) memory
 
 -- the entry that the bytes at an index are
 pub record IsAt (all : List (Vec ℕ Global)) (es : List Entry) (i : ℕ) (v : Vec ℕ Global) : Type 0 where

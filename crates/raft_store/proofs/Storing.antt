@@ -1,13 +1,17 @@
 -- One batch of a group's changes: what is shown after it, and of the other groups.
-use Rattle.std.proofs.Common.{◌≡◌, ◌≢◌, inl, inr, ℕ, Bool, cond, List, [], ◌∷◌, refl, ap, sym, subst, ◌∙◌, eq-eqb}
-use Rattle.std.specs.Prelude.{Result, Ok, Err, OnErr, OnOk, Option, None}
+use Rattle.std.proofs.Common.{◌≡◌, ◌≢◌, inl, inr, ℕ, Bool, false, ◌||◌, cond, List, [], ◌∷◌, refl, ap, sym, subst, ◌∙◌, eq-eqb}
+use Rattle.std.specs.Prelude.{Result, Ok, Err, IfErr, IsErrAnd, OnErr, OnOk, Option, None}
+use Rattle.std.specs.List.{list_any}
 use Rattle.raft_group_step.specs.StoredGroup.{StoredGroup}
 use Rattle.raft_log_records.specs.Item.{Change, Item}
+use Rattle.raft_log_records.specs.Spelling.{holds_mark, is_mark}
 use Rattle.raft_log_memtables.specs.Content.{Content, GroupContent, after_batch, after_change, after_item}
 use Rattle.raft_log_memtables.specs.Taken.{TakesEach}
-use Rattle.raft_content_log.specs.Leaving.{AgreesElsewhere, IsEither, IsUnnamed, IsWritten, Leaves, LeavesElsewhere, LeavesNoMore, MayBeWritten}
+use Rattle.raft_content_log.specs.Leaving.{AgreesElsewhere, AreUnmarked, IsEither, IsUnnamed, IsWritten, Leaves, LeavesElsewhere, LeavesNoMore, MayBeWritten}
 use Rattle.raft_machines.specs.Machine.{MachineRules}
 use Rattle.raft_store.specs.Batches.{Carries, ShowsIn, TakesChanges, after_changes, of_group}
+use Rattle.raft_store.specs.Faults.{IsNoMisuse}
+use Rattle.raft_store.specs.declared.fault.StoreFault.{StoreFault}
 use Rattle.raft_store.specs.Reading.{Holds, HoldsOne, Recalls}
 use Rattle.raft_store.specs.declared.recent.Recent.{Recent}
 
@@ -30,6 +34,13 @@ unnamed : (group other : ℕ) (changes : List (Change (List ℕ))) → other ≢
 unnamed group other [] ne = tt
 unnamed group other (change ∷ changes) ne = (λ same. ne (sym same), unnamed group other changes ne)
 
+plain_group : (group : ℕ) (changes : List (Change (List ℕ))) → list_any is_mark changes ≡ false → AreUnmarked (of_group group changes)
+plain_group group changes plain = same changes ∙ plain
+  where
+    same : (more : List (Change (List ℕ))) → list_any holds_mark (of_group group more) ≡ list_any is_mark more
+    same [] = refl
+    same (change ∷ more) = ap (λ (b : Bool). is_mark change || b) (same more)
+
 -- ---- parts
 
 pub only_one : (rules : MachineRules) (g : GroupContent (List ℕ)) (s : StoredGroup) → HoldsOne rules g (s ∷ []) → Holds rules g s
@@ -46,6 +57,9 @@ module _ (rules : MachineRules) (items : List (Item (List ℕ))) (group : ℕ) (
   module _ (s t : StoredGroup) (carries : Carries rules changes s t) (held : Holds rules (old group) s) where
     pub taken : TakesEach items old
     taken = subst (λ (l : List (Item (List ℕ))). TakesEach l old) (sym are) (takes_each group changes old (carries.takes (old group) held))
+
+    pub unmarked : AreUnmarked items
+    unmarked = subst AreUnmarked (sym are) (plain_group group changes carries.plain)
 
     held_after : Holds rules (after_batch items old group) t
     held_after = subst (λ (g : GroupContent (List ℕ)). Holds rules g t) (sym (ap (λ (l : List (Item (List ℕ))). after_batch l old group) are ∙ changes_at group changes old)) (carries.holds (old group) held)
@@ -113,3 +127,9 @@ on_err_all P Q (Err e) so = so
 pub on_err_any : {T E : Type 0} (P : Type 0) (r : Result T E) → P → OnErr r P
 on_err_any P (Ok v) p = tt
 on_err_any P (Err e) p = p
+
+-- ---- no fault is a misuse of the log
+
+pub refused_so : {T F : Type 0} (misuse : F → Type 0) (r : Result T (StoreFault F)) (fault : StoreFault F) → IsErrAnd r (λ f. f ≡ fault) → IsNoMisuse misuse fault → IfErr r (IsNoMisuse misuse)
+refused_so misuse (Ok v) fault is fits = absurd is
+refused_so misuse (Err f) fault is fits = subst (IsNoMisuse misuse) (sym is) fits

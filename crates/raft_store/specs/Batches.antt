@@ -1,5 +1,6 @@
 -- Batches of one group.
-use Rattle.std.specs.Prelude.{◌+◌, ℕ, List, [], ◌∷◌, map, ◌⊎◌, ◌<◌, ◌≤◌, ◌^◌, ◌≡◌, Option}
+use Rattle.std.specs.Prelude.{◌+◌, ℕ, false, List, [], ◌∷◌, map, ◌⊎◌, ◌<◌, ◌≤◌, ◌^◌, ◌≡◌, Option}
+use Rattle.std.specs.List.{list_any}
 use Rattle.std.specs.Int.{w64, to_be_bytes}
 use Rattle.raft_values.specs.declared.vote.Vote.{Vote}
 use Rattle.raft_values.specs.declared.log_id.LogId.{LogId}
@@ -8,6 +9,7 @@ use Rattle.raft_group_step.specs.StoredGroup.{StoredGroup}
 use Rattle.raft_log_records.specs.Item.{Change, Item}
 use Rattle.raft_log_records.specs.Item.Change.{entries, compact, put}
 use Rattle.raft_log_records.specs.Batch.{numbered}
+use Rattle.raft_log_records.specs.Spelling.{is_mark}
 use Rattle.raft_log_memtables.specs.Content.{Content, GroupContent, after_change}
 use Rattle.raft_log_memtables.specs.Taken.{Takes}
 use Rattle.raft_content_log.specs.Leaving.{Leaves}
@@ -35,8 +37,9 @@ abbrev pub TakesChanges : List (Change (List ℕ)) → GroupContent (List ℕ) �
 TakesChanges [] g = Unit {0}
 TakesChanges (change ∷ changes) g = Takes change g × TakesChanges changes (after_change change g)
 
--- the group takes them, and where it holds the one part, it holds the other after them
+-- the group takes them, and where it holds the one part, it holds the other after them. None marks a part of an atomic group
 pub record Carries (rules : MachineRules) (changes : List (Change (List ℕ))) (s t : StoredGroup) : Type 0 where
+  pub plain : list_any is_mark changes ≡ false
   pub takes : (g : GroupContent (List ℕ)) → Holds rules g s → TakesChanges changes g
   pub holds : (g : GroupContent (List ℕ)) → Holds rules g s → Holds rules (after_changes changes g) t
 

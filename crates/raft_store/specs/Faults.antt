@@ -17,10 +17,15 @@ refusal_of errors.Memory = refusal.Memory
 abbrev pub IsRead : {A : Type 0} → Result A StoreRefusal → A → Type 0
 IsRead result value = MatchResult result (λ found. found ≡ value) (λ refused. refused ≡ refusal.Memory)
 
--- it is the log's own fault, or want of memory: no stored value was refused
-abbrev pub IsLogOrMemory : {F : Type 0} → StoreFault F → Type 0
-IsLogOrMemory (Log fault) = Unit {0}
-IsLogOrMemory (Refused refused) = refused ≡ refusal.Memory
+-- a fault of the log is no misuse of it
+abbrev pub IsNoMisuse : {F : Type 0} → (F → Type 0) → StoreFault F → Type 0
+IsNoMisuse misuse (Log fault) = misuse fault → ⊥
+IsNoMisuse misuse (Refused refused) = Unit {0}
+
+-- it is the log's own fault, and no misuse of the log, or want of memory: no stored value was refused
+abbrev pub IsLogOrMemory : {F : Type 0} → (F → Type 0) → StoreFault F → Type 0
+IsLogOrMemory misuse (Log fault) = misuse fault → ⊥
+IsLogOrMemory misuse (Refused refused) = refused ≡ refusal.Memory
 
 -- the log's own fault, if it is one
 abbrev pub log_fault : {F : Type 0} → StoreFault F → Option F

@@ -10,7 +10,7 @@ impl<M: StateMachine, L: CrashLog> CrashStorage for Store<M, L> {
 
     type Refusal = L::Refusal;
 
-    ghost crashed = { λ old new. L.crashed old.log new.log };
+    ghost crashed = { λ old choice new. L.crashed old.log choice new.log };
 
     ghost refuses = { λ store choice why. L.refuses store.log choice why };
 

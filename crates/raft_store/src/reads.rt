@@ -1,12 +1,12 @@
 //! What a log holds of a group.
-ghost use Rattle.std.specs.Prelude.{◌≡◌, ◌-◌, ◌≤◌, ℕ, List, [], ◌∷◌, ◌++◌, drop, filter, max, take};
+ghost use Rattle.std.specs.Prelude.{◌≡◌, ◌-◌, ◌<◌, ◌≤◌, ℕ, List, [], ◌∷◌, ◌++◌, drop, filter, max, take};
 ghost use Rattle.std.specs.Prelude.{IfOk, IfErr, IfSome, MatchResult, OnOk, false, is_some, option_and_then, option_map};
 ghost use Rattle.std.specs.Result.{result_err};
 ghost use Rattle.std.specs.List.Sorted.{IsStrictlySortedBy};
 ghost use Rattle.std.specs.Ordering.{eq_by_cmp, nat_cmp};
 ghost use Rattle.std.specs.Set.{is_member};
 ghost use Rattle.raft_log_memtables.specs.Content.{no_group};
-ghost use Rattle.raft_content_log.specs.Leaving.{AreEntries};
+ghost use Rattle.raft_content_log.specs.Leaving.{AreEntries, AreThere};
 ghost use Rattle.raft_group_step.specs.StoredGroup.{StoredGroup, end_place, first_place};
 ghost use Rattle.raft_group_storage.specs.Keeping.{KeepsAll, StandsOrNone, entries_of};
 ghost use Rattle.raft_group_storage.specs.Loaded.{IsLoaded};
@@ -52,7 +52,7 @@ impl<M: StateMachine, L: ContentLog> Store<M, L> {
     // The value of a key of the group.
     fn get(&mut self, group: u64, key: &[u8]) -> Result<Option<Vec<u8>>, StoreFault<L::Fault>>
         ensures value { L.is_sound self.old.log → IfOk result (λ found. option_map (λ v. v.items) found ≡ (L.answers self.old.log group).value key.now) }
-        ensures cause { IfErr result IsLogOrMemory }
+        ensures cause { IfErr result (IsLogOrMemory L.is_misuse) }
         ensures well { L.is_sound self.old.log → OnOk result (L.is_sound self.new.log) }
         ensures steady { L.is_sound self.new.log → L.is_sound self.old.log × (L.answers self.new.log ≡ L.answers self.old.log) }
         ensures kept { KeepsAll (ShowsBy M.rules L.is_sound L.answers L.leaves self.old.log self.old.recent) (ShowsBy M.rules L.is_sound L.answers L.leaves self.new.log self.new.recent) }
@@ -72,7 +72,7 @@ impl<M: StateMachine, L: ContentLog> Store<M, L> {
         end: u64,
     ) -> Result<Vec<Vec<u8>>, StoreFault<L::Fault>>
         ensures entries { L.is_sound self.old.log → IfOk result (λ found. AreEntries (L.answers self.old.log group).entry begin end (payloads found.items)) }
-        ensures cause { IfErr result IsLogOrMemory }
+        ensures cause { L.is_sound self.old.log → begin < end → AreThere (L.answers self.old.log group).entry begin end → IfErr result (IsLogOrMemory L.is_misuse) }
         ensures well { L.is_sound self.old.log → OnOk result (L.is_sound self.new.log) }
         ensures kept { KeepsAll (ShowsBy M.rules L.is_sound L.answers L.leaves self.old.log self.old.recent) (ShowsBy M.rules L.is_sound L.answers L.leaves self.new.log self.new.recent) }
         ensures met { L.meets self.old.log self.new.log (option_and_then log_fault (result_err result)) }
@@ -92,7 +92,7 @@ impl<M: StateMachine, L: ContentLog> Store<M, L> {
         ensures end { (s : StoredGroup) → L.is_sound self.old.log → ShowsBy M.rules L.is_sound L.answers L.leaves self.old.log self.old.recent group (s ∷ [])
             → IfOk result (λ b. b.end ≡ end_place s) }
         ensures cause { (s : StoredGroup) → L.is_sound self.old.log → ShowsBy M.rules L.is_sound L.answers L.leaves self.old.log self.old.recent group (s ∷ [])
-            → IfErr result IsLogOrMemory }
+            → IfErr result (IsLogOrMemory L.is_misuse) }
         ensures well { L.is_sound self.old.log → OnOk result (L.is_sound self.new.log) }
         ensures kept { KeepsAll (ShowsBy M.rules L.is_sound L.answers L.leaves self.old.log self.old.recent) (ShowsBy M.rules L.is_sound L.answers L.leaves self.new.log self.new.recent) }
         ensures met { L.meets self.old.log self.new.log (option_and_then log_fault (result_err result)) }
@@ -109,7 +109,7 @@ impl<M: StateMachine, L: ContentLog> Store<M, L> {
         ensures ok { (s : StoredGroup) → L.is_sound self.old.log → ShowsBy M.rules L.is_sound L.answers L.leaves self.old.log self.old.recent group (s ∷ [])
             → IfOk result (λ there. there ≡ s.present) }
         ensures by_key { L.is_sound self.old.log → IfOk result (λ there. there ≡ is_some ((L.answers self.old.log group).value group_key)) }
-        ensures cause { IfErr result IsLogOrMemory }
+        ensures cause { IfErr result (IsLogOrMemory L.is_misuse) }
         ensures well { L.is_sound self.old.log → OnOk result (L.is_sound self.new.log) }
         ensures steady { L.is_sound self.new.log → L.is_sound self.old.log × (L.answers self.new.log ≡ L.answers self.old.log) }
         ensures kept { KeepsAll (ShowsBy M.rules L.is_sound L.answers L.leaves self.old.log self.old.recent) (ShowsBy M.rules L.is_sound L.answers L.leaves self.new.log self.new.recent) }
@@ -123,7 +123,7 @@ impl<M: StateMachine, L: ContentLog> Store<M, L> {
         ensures ok { (s : StoredGroup) → L.is_sound self.old.log → ShowsBy M.rules L.is_sound L.answers L.leaves self.old.log self.old.recent group (s ∷ [])
             → IfOk result (λ vote. vote ≡ s.vote) }
         ensures cause { (s : StoredGroup) → L.is_sound self.old.log → ShowsBy M.rules L.is_sound L.answers L.leaves self.old.log self.old.recent group (s ∷ [])
-            → IfErr result IsLogOrMemory }
+            → IfErr result (IsLogOrMemory L.is_misuse) }
         ensures well { L.is_sound self.old.log → OnOk result (L.is_sound self.new.log) }
         ensures kept { KeepsAll (ShowsBy M.rules L.is_sound L.answers L.leaves self.old.log self.old.recent) (ShowsBy M.rules L.is_sound L.answers L.leaves self.new.log self.new.recent) }
         ensures met { L.meets self.old.log self.new.log (option_and_then log_fault (result_err result)) }
@@ -141,7 +141,7 @@ impl<M: StateMachine, L: ContentLog> Store<M, L> {
     ) -> Result<Vec<GroupEntry>, StoreFault<L::Fault>>
         ensures read { (s : StoredGroup) → L.is_sound self.old.log → ShowsBy M.rules L.is_sound L.answers L.leaves self.old.log self.old.recent group (s ∷ [])
             → first_place s ≤ places.start → places.end ≤ max (end_place s) places.start
-            → MatchResult result (λ found. found.items ≡ take (places.end - places.start) (drop (places.start - first_place s) s.log)) IsLogOrMemory }
+            → MatchResult result (λ found. found.items ≡ take (places.end - places.start) (drop (places.start - first_place s) s.log)) (IsLogOrMemory L.is_misuse) }
         ensures well { L.is_sound self.old.log → OnOk result (L.is_sound self.new.log) }
         ensures kept { KeepsAll (ShowsBy M.rules L.is_sound L.answers L.leaves self.old.log self.old.recent) (ShowsBy M.rules L.is_sound L.answers L.leaves self.new.log self.new.recent) }
         ensures met { L.meets self.old.log self.new.log (option_and_then log_fault (result_err result)) }
@@ -185,7 +185,7 @@ impl<M: StateMachine, L: ContentLog> Store<M, L> {
         ensures ok { (s : StoredGroup) → L.is_sound self.old.log → ShowsBy M.rules L.is_sound L.answers L.leaves self.old.log self.old.recent group (s ∷ [])
             → IfOk result (λ copy. StandsOrNone (StandsFor M.rules) copy s.snapshot) }
         ensures cause { (s : StoredGroup) → L.is_sound self.old.log → ShowsBy M.rules L.is_sound L.answers L.leaves self.old.log self.old.recent group (s ∷ [])
-            → IfErr result IsLogOrMemory }
+            → IfErr result (IsLogOrMemory L.is_misuse) }
         ensures kept { KeepsAll (ShowsBy M.rules L.is_sound L.answers L.leaves self.old.log self.old.recent) (ShowsBy M.rules L.is_sound L.answers L.leaves self.new.log self.new.recent) }
         ensures met { L.meets self.old.log self.new.log (option_and_then log_fault (result_err result)) }
     {
@@ -207,7 +207,7 @@ impl<M: StateMachine, L: ContentLog> Store<M, L> {
         ensures ok { (s : StoredGroup) → L.is_sound self.old.log → ShowsBy M.rules L.is_sound L.answers L.leaves self.old.log self.old.recent group (s ∷ [])
             → IfOk result (λ copies. copies ≡ entries_of s prev last) }
         ensures cause { (s : StoredGroup) → L.is_sound self.old.log → ShowsBy M.rules L.is_sound L.answers L.leaves self.old.log self.old.recent group (s ∷ [])
-            → IfErr result IsLogOrMemory }
+            → IfErr result (IsLogOrMemory L.is_misuse) }
         ensures kept { KeepsAll (ShowsBy M.rules L.is_sound L.answers L.leaves self.old.log self.old.recent) (ShowsBy M.rules L.is_sound L.answers L.leaves self.new.log self.new.recent) }
         ensures met { L.meets self.old.log self.new.log (option_and_then log_fault (result_err result)) }
     {
@@ -226,7 +226,7 @@ impl<M: StateMachine, L: ContentLog> Store<M, L> {
         ensures ok { (s : StoredGroup) → L.is_sound self.old.log → ShowsBy M.rules L.is_sound L.answers L.leaves self.old.log self.old.recent group (s ∷ [])
             → IfOk result (λ loaded. IsLoaded loaded s) }
         ensures cause { (s : StoredGroup) → L.is_sound self.old.log → ShowsBy M.rules L.is_sound L.answers L.leaves self.old.log self.old.recent group (s ∷ [])
-            → IfErr result IsLogOrMemory }
+            → IfErr result (IsLogOrMemory L.is_misuse) }
         ensures kept { KeepsAll (ShowsBy M.rules L.is_sound L.answers L.leaves self.old.log self.old.recent) (ShowsBy M.rules L.is_sound L.answers L.leaves self.new.log self.new.recent) }
         ensures met { L.meets self.old.log self.new.log (option_and_then log_fault (result_err result)) }
     {

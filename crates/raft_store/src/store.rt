@@ -1,5 +1,5 @@
 //! A node's groups in a log.
-ghost use Rattle.std.specs.Prelude.{◌≡◌, ℕ, List, [], ◌∷◌, None, OnOk, OnErr, option_and_then};
+ghost use Rattle.std.specs.Prelude.{◌≡◌, ℕ, List, [], ◌∷◌, None, IfErr, OnOk, OnErr, option_and_then};
 ghost use Rattle.std.specs.Result.{result_err};
 ghost use Rattle.raft_group_step.specs.StoredGroup.{Snapshot, StoredGroup};
 ghost use Rattle.raft_group_step.specs.StoredGroup.{CutFrom, MakeGroup, PutEntries, RemoveUpTo, SetSnapshot, SetVote, StartAfter};
@@ -9,7 +9,7 @@ ghost use Rattle.raft_group_storage.specs.Keeping.{KeepsOthers, MayStore, Stores
 ghost use Rattle.raft_log_memtables.specs.Content.{nothing};
 ghost use Rattle.raft_log_records.specs.Item.{Change};
 ghost use Rattle.raft_store.specs.Batches.{Carries, ShowsBy, of_group};
-ghost use Rattle.raft_store.specs.Faults.{log_fault};
+ghost use Rattle.raft_store.specs.Faults.{IsNoMisuse, log_fault};
 ghost use Rattle.raft_store.specs.Reading.{HoldsOne, StandsFor};
 
 use crate::batches::{
@@ -82,6 +82,9 @@ impl<M: StateMachine, L: ContentLog> Store<M, L> {
             → KeepsOthers (ShowsBy M.rules L.is_sound L.answers L.leaves self.old.log self.old.recent) (ShowsBy M.rules L.is_sound L.answers L.leaves self.new.log self.new.recent) group }
         ensures forgets { self.new.recent ≡ None }
         ensures met { L.meets self.old.log self.new.log (option_and_then log_fault (result_err result)) }
+        ensures fits { (group : ℕ) (changes : List (Change (List ℕ))) (s t : StoredGroup) → batch.old.items ≡ of_group group changes → Carries M.rules changes s t
+            → L.is_sound self.old.log → ShowsBy M.rules L.is_sound L.answers L.leaves self.old.log self.old.recent group (s ∷ [])
+            → IfErr result (IsNoMisuse L.is_misuse) }
     {
         self.recent = None;
         match self.log.write(batch) {
@@ -102,6 +105,8 @@ impl<M: StateMachine, L: ContentLog> Store<M, L> {
         ensures others { KeepsOthers (ShowsBy M.rules L.is_sound L.answers L.leaves self.old.log self.old.recent)
             (ShowsBy M.rules L.is_sound L.answers L.leaves self.new.log self.new.recent) group }
         ensures met { L.meets self.old.log self.new.log (option_and_then log_fault (result_err result)) }
+        ensures fits { (s : StoredGroup) → L.is_sound self.old.log → ShowsBy M.rules L.is_sound L.answers L.leaves self.old.log self.old.recent group (s ∷ [])
+            → IfErr result (IsNoMisuse L.is_misuse) }
     {
         let mut batch = make_batch(self.alloc, group)?;
         self.store(&mut batch)
@@ -119,6 +124,8 @@ impl<M: StateMachine, L: ContentLog> Store<M, L> {
         ensures others { KeepsOthers (ShowsBy M.rules L.is_sound L.answers L.leaves self.old.log self.old.recent)
             (ShowsBy M.rules L.is_sound L.answers L.leaves self.new.log self.new.recent) group }
         ensures met { L.meets self.old.log self.new.log (option_and_then log_fault (result_err result)) }
+        ensures fits { (s : StoredGroup) → L.is_sound self.old.log → ShowsBy M.rules L.is_sound L.answers L.leaves self.old.log self.old.recent group (s ∷ [])
+            → IfErr result (IsNoMisuse L.is_misuse) }
     {
         let mut batch = vote_batch(self.alloc, group, vote)?;
         self.store(&mut batch)
@@ -140,6 +147,8 @@ impl<M: StateMachine, L: ContentLog> Store<M, L> {
         ensures others { KeepsOthers (ShowsBy M.rules L.is_sound L.answers L.leaves self.old.log self.old.recent)
             (ShowsBy M.rules L.is_sound L.answers L.leaves self.new.log self.new.recent) group }
         ensures met { L.meets self.old.log self.new.log (option_and_then log_fault (result_err result)) }
+        ensures fits { (s : StoredGroup) (x : Snapshot) → L.is_sound self.old.log → StandsFor M.rules snapshot.now x
+            → ShowsBy M.rules L.is_sound L.answers L.leaves self.old.log self.old.recent group (s ∷ []) → IfErr result (IsNoMisuse L.is_misuse) }
     {
         let mut batch = snapshot_batch(self.alloc, group, snapshot)?;
         self.store(&mut batch)
@@ -162,6 +171,8 @@ impl<M: StateMachine, L: ContentLog> Store<M, L> {
         ensures others { KeepsOthers (ShowsBy M.rules L.is_sound L.answers L.leaves self.old.log self.old.recent)
             (ShowsBy M.rules L.is_sound L.answers L.leaves self.new.log self.new.recent) group }
         ensures met { L.meets self.old.log self.new.log (option_and_then log_fault (result_err result)) }
+        ensures fits { (s : StoredGroup) → L.is_sound self.old.log → ShowsBy M.rules L.is_sound L.answers L.leaves self.old.log self.old.recent group (s ∷ [])
+            → IfErr result (IsNoMisuse L.is_misuse) }
     {
         let bounds = self.bounds(group)?;
         bounds.check_place(place)?;
@@ -183,6 +194,8 @@ impl<M: StateMachine, L: ContentLog> Store<M, L> {
         ensures others { KeepsOthers (ShowsBy M.rules L.is_sound L.answers L.leaves self.old.log self.old.recent)
             (ShowsBy M.rules L.is_sound L.answers L.leaves self.new.log self.new.recent) group }
         ensures met { L.meets self.old.log self.new.log (option_and_then log_fault (result_err result)) }
+        ensures fits { (s : StoredGroup) → L.is_sound self.old.log → ShowsBy M.rules L.is_sound L.answers L.leaves self.old.log self.old.recent group (s ∷ [])
+            → IfErr result (IsNoMisuse L.is_misuse) }
     {
         let bounds = self.bounds(group)?;
         let mut batch = end_batch(self.alloc, group, bounds.cut_end(place))?;
@@ -201,6 +214,8 @@ impl<M: StateMachine, L: ContentLog> Store<M, L> {
         ensures others { KeepsOthers (ShowsBy M.rules L.is_sound L.answers L.leaves self.old.log self.old.recent)
             (ShowsBy M.rules L.is_sound L.answers L.leaves self.new.log self.new.recent) group }
         ensures met { L.meets self.old.log self.new.log (option_and_then log_fault (result_err result)) }
+        ensures fits { (s : StoredGroup) → L.is_sound self.old.log → ShowsBy M.rules L.is_sound L.answers L.leaves self.old.log self.old.recent group (s ∷ [])
+            → IfErr result (IsNoMisuse L.is_misuse) }
     {
         let bounds = self.bounds(group)?;
         bounds.check_purge(id)?;
@@ -220,6 +235,8 @@ impl<M: StateMachine, L: ContentLog> Store<M, L> {
         ensures others { KeepsOthers (ShowsBy M.rules L.is_sound L.answers L.leaves self.old.log self.old.recent)
             (ShowsBy M.rules L.is_sound L.answers L.leaves self.new.log self.new.recent) group }
         ensures met { L.meets self.old.log self.new.log (option_and_then log_fault (result_err result)) }
+        ensures fits { (s : StoredGroup) → L.is_sound self.old.log → ShowsBy M.rules L.is_sound L.answers L.leaves self.old.log self.old.recent group (s ∷ [])
+            → IfErr result (IsNoMisuse L.is_misuse) }
     {
         let bounds = self.bounds(group)?;
         bounds.check_purge(id)?;

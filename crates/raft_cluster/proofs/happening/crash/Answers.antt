@@ -10,4 +10,4 @@ returns-in-Some-clause-ok g c =
     λ sent at. record { why = c.in-Err.why; refuses = c.in-Err.ensures.why; named = sym c.in-Some.ensures; node = c.in-Err.ensures.refused }
 
 pub returns-in-None-clause-memory : goal.returns-in-None-clause-memory
-returns-in-None-clause-memory g c = without_memory g.N.ClusterNode.acts c.args.choice c.args.node.now c.in-Err.why c.in-Err.ensures.why (sym c.in-None.ensures)
+returns-in-None-clause-memory g c = without_memory g.N.ClusterNode.acts c.args.choice.now c.args.node.now c.in-Err.why c.in-Err.ensures.why (sym c.in-None.ensures)

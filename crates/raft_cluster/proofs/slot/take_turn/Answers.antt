@@ -1,20 +1,15 @@
-use Rattle.std.proofs.Common.{◌≡◌, ◌<◌, ◌∙◌, ℕ, List, Option, Some, get_or, length, map, slice_get, refl, sym, ap, subst}
-use Rattle.std.proofs.lemmas.Option.{slice_get_read}
+use Rattle.std.proofs.Common.{◌∙◌, Result, Ok, Err, sym}
+use Rattle.std.specs.Prelude.{OnErr}
 use Rattle.std.proofs.lemmas.Result.{IfOk-weaker, on_err_weaker}
 use Rattle.raft_sent_frames.specs.Frames.{frames_of}
-use Rattle.raft_cluster_events.specs.Node.{NodeActs}
-use Rattle.raft_cluster.specs.Facts.{node_of, place_in}
-use Rattle.raft_cluster.proofs.SlotLemmas.{at_turned, same_slots, wants}
+use Rattle.raft_cluster.specs.Facts.{node_of}
+use Rattle.raft_cluster.proofs.SlotLemmas.{at_turned, found, same_slots, stands, wants}
 use Rattle.raft_cluster.proofs.slot.take_turn.Goals as goal
 
--- the slot at the place that was found
-stands : {S : Type 0} (slots listed : List S) (place : ℕ) (old : S) → listed ≡ slots → place < length listed → old ≡ get_or slots place old → slice_get slots place ≡ Some old
-stands slots listed place old same within is = slice_get_read slots (length slots) place old refl (subst (λ ss. place < length ss) same within) is
-
--- which is the place of the node that the event is for
-found : {N S : Type 0} (acts : NodeActs N) (node : S → N) (slots listed : List S) (place : ℕ) (asked id : Option ℕ) → listed ≡ slots → asked ≡ id → Some place ≡ place_in acts (map node listed) asked → place_in acts (map node slots) id ≡ Some place
-found acts node slots listed place asked id same of first =
-    sym (first ∙ ap (λ ss. place_in acts (map node ss) asked) same ∙ ap (place_in acts (map node slots)) of)
+-- two things are said of an error
+both : {A E P Q R : Type 0} (r : Result A E) → (P → Q → R) → OnErr r P → OnErr r Q → OnErr r R
+both (Ok a) f p q = tt
+both (Err e) f p q = f p q
 
 pub returns-in-Some-clause-ok : goal.returns-in-Some-clause-ok
 returns-in-Some-clause-ok g c =
@@ -35,8 +30,8 @@ returns-in-Some-clause-memory g c =
     let old = c.index_mut.result.now in
     let here = found acts (λ slot. slot.node) slots c.as_slice.result.now place c.node_of.result (node_of (frames_of c.args.sent.now) c.args.event.now) c.as_slice.ensures.value c.node_of.ensures c.in-Some.ensures.first in
     let there = stands slots c.as_slice.result.now place old c.as_slice.ensures.value c.in-Some.ensures.within c.index_mut.ensures.value in
-    on_err_weaker c.turn.result
-    (λ why. wants acts (λ slot. slot.node) (λ slot. slot.answer) (frames_of c.args.sent.now) c.args.history.now c.args.event.now slots place old here there why.0 why.1) c.turn.ensures.memory
+    both c.turn.result
+    (λ admitted why. wants acts (λ slot. slot.node) (λ slot. slot.answer) (frames_of c.args.sent.now) c.args.history.now c.args.event.now slots place old here there why.0 admitted why.1) c.turn.ensures.admitted c.turn.ensures.memory
 
 pub returns-in-Some-clause-nodes : goal.returns-in-Some-clause-nodes
 returns-in-Some-clause-nodes g c =

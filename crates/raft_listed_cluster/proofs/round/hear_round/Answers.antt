@@ -3,8 +3,8 @@ use Rattle.std.specs.Vec.Iter.{into_iter_items}
 use Rattle.std.proofs.Math.Seq.{drop-cons}
 use Rattle.raft_sent_frames.specs.Frames.{frames_of}
 use Rattle.raft_cluster_events.specs.declared.outcome.Recorded.{Recorded}
-use Rattle.raft_cluster_lists.specs.declared.brought.Brought.{Brought}
-use Rattle.raft_listed_cluster.specs.Round.{AreReadyFor, HearsRound, is_crash}
+use Rattle.raft_cluster.specs.Round.{is_crash}
+use Rattle.raft_listed_cluster.specs.Round.{AreReadyFor, HearsRound}
 use Rattle.raft_listed_cluster.proofs.LeftFacts.{hears_on, hears_past, ready_now, ready_on, ready_past}
 use Rattle.raft_listed_cluster.proofs.round.hear_round.Goals as goal
 

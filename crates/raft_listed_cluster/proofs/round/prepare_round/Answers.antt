@@ -1,4 +1,4 @@
-use Rattle.std.proofs.Common.{◌≡◌, ◌<◌, ◌+◌, ℕ, false, List, [], get_or, length, take, sym, ap, ◌∙◌, subst, arith}
+use Rattle.std.proofs.Common.{◌≡◌, ◌<◌, ◌+◌, ℕ, false, List, [], get_or, length, take, sym, ◌∙◌, subst, arith}
 use Rattle.std.specs.Prelude.{Contains}
 use Rattle.std.specs.List.{AllZip}
 use Rattle.std.proofs.lemmas.List.Elements.{Contains-get_or}
@@ -6,7 +6,7 @@ use Rattle.raft_sent_frames.specs.Frames.{frames_of}
 use Rattle.raft_cluster_events.specs.declared.event.ClusterEvent.{ClusterEvent}
 use Rattle.raft_cluster_lists.specs.declared.brought.Brought.{Brought}
 use Rattle.raft_listed_cluster.specs.Preparing.{ArePrepared, IsPreparedSo}
-use Rattle.raft_listed_cluster.specs.Round.{is_crash}
+use Rattle.raft_cluster.specs.Round.{is_crash}
 use Rattle.raft_listed_cluster.proofs.PreparedFacts.{more_prepared, nothing_prepared, prepared_more}
 use Rattle.raft_listed_cluster.proofs.round.prepare_round.Goals as goal
 

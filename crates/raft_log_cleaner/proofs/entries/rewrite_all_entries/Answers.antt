@@ -1,5 +1,6 @@
 -- The cleaning goes on with each chunk.
 use Rattle.raft_log_disk.proofs.RefusalLemmas.{no_more_same, no_more_then}
+use Rattle.raft_log_cleaner.proofs.Caused.{refused_then}
 use Rattle.raft_log_cleaner.proofs.Going.{gone_done, gone_more, gone_refused, not_yet}
 use Rattle.raft_log_cleaner.proofs.entries.rewrite_all_entries.Goals as goal
 
@@ -7,16 +8,18 @@ pub returns-then-not-is_marked : goal.returns-then-not-is_marked
 returns-then-not-is_marked g c = record {
   goes_on = gone_done tt (not_yet (g.F.FileSystem.disk c.args.files.now) c.args.pipes.now c.args.log.now c.args.writer.now.batch.items);
   later = no_more_same _ _;
+  cause = tt;
 }
 
 pub returns-in_default : goal.returns-in_default
 returns-in_default g c = record {
   goes_on = gone_done tt (not_yet (g.F.FileSystem.disk c.args.files.now) c.args.pipes.now c.args.log.now c.args.writer.now.batch.items);
   later = no_more_same _ _;
+  cause = tt;
 }
 
 pub returns-in_default-next_entries : goal.returns-in_default-next_entries
-returns-in_default-next_entries g c = record { goes_on = gone_done tt c.loop.invariant.gone; later = c.loop.invariant.later }
+returns-in_default-next_entries g c = record { goes_on = gone_done tt c.loop.invariant.gone; later = c.loop.invariant.later; cause = tt }
 
 pub loop-init : goal.loop-init
 loop-init g c = record {
@@ -34,6 +37,7 @@ pub returns-in_err-rewrite_chunk : goal.returns-in_err-rewrite_chunk
 returns-in_err-rewrite_chunk g c = record {
   goes_on = gone_refused c.from_residual.result c.in_err-rewrite_chunk.field-0.0 c.from_residual.ensures.1 c.loop.invariant.gone c.in_err-rewrite_chunk.ensures.goes_on;
   later = c.loop.invariant.later;
+  cause = refused_then c.loop.invariant.later (g.F.FileSystem.meter c.loop.files) c.from_residual.result c.in_err-rewrite_chunk.field-0.0 c.from_residual.ensures.1 c.in_err-rewrite_chunk.ensures.cause;
 }
 
 pub returns-in_err-flush_large : goal.returns-in_err-flush_large
@@ -41,6 +45,7 @@ returns-in_err-flush_large g c = record {
   goes_on = gone_refused c.from_residual-in_err-flush_large.result c.in_err-flush_large.field-0.0 c.from_residual-in_err-flush_large.ensures.1
       (gone_more tt c.loop.invariant.gone c.in_ok-rewrite_chunk.ensures.goes_on) c.in_err-flush_large.ensures.goes_on;
   later = no_more_then c.loop.invariant.later c.in_err-flush_large.ensures.later;
+  cause = refused_then c.loop.invariant.later (g.F.FileSystem.meter c.flush_large.new.files) c.from_residual-in_err-flush_large.result c.in_err-flush_large.field-0.0 c.from_residual-in_err-flush_large.ensures.1 c.in_err-flush_large.ensures.cause;
 }
 
 pub loop-preserved : goal.loop-preserved
@@ -50,4 +55,4 @@ loop-preserved g c = record {
 }
 
 pub returns : goal.returns
-returns g c = record { goes_on = gone_done tt c.loop.invariant.gone; later = c.loop.invariant.later }
+returns g c = record { goes_on = gone_done tt c.loop.invariant.gone; later = c.loop.invariant.later; cause = tt }

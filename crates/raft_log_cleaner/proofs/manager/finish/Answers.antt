@@ -2,6 +2,7 @@
 use Rattle.std.proofs.Common.{◌≡◌, ap, ◌∙◌, sym, subst}
 use Rattle.std.specs.Prelude.{Result, OnOk}
 use Rattle.raft_log_disk.proofs.RefusalLemmas.{no_more_then}
+use Rattle.raft_log_cleaner.proofs.Caused.{cause_then}
 use Rattle.raft_log_cleaner.proofs.Ends.{ends_ok}
 use Rattle.raft_log_cleaner.proofs.Going.{gone_more, gone_then, none_ok, not_yet, when_err}
 use Rattle.raft_log_cleaner.proofs.manager.finish.Goals as goal
@@ -31,3 +32,6 @@ returns-clause-finishes g c =
 
 pub returns-clause-later : goal.returns-clause-later
 returns-clause-later g c = no_more_then c.in_ok-flush.ensures.later c.sync.ensures.later
+
+pub returns-clause-cause : goal.returns-clause-cause
+returns-clause-cause g c = cause_then c.in_ok-flush.ensures.later (g.F.FileSystem.meter c.sync.new.files) c.sync.result c.sync.ensures.cause

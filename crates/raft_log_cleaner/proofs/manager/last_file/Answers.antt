@@ -1,5 +1,6 @@
 -- A file that is named, or a new one that is begun.
 use Rattle.std.proofs.Common.{[], ap}
+use Rattle.raft_log_cleaner.proofs.Caused.{call_cause, refused}
 use Rattle.raft_log_cleaner.proofs.Going.{none_ok, when_err}
 use Rattle.raft_log_pipe.specs.Pipe.{first_of}
 use Rattle.raft_log_pipe.proofs.FirstLemmas.{begun_first}
@@ -27,6 +28,10 @@ returns-in_err-rotate g c =
         rewrite = pipe_left p.rewrite q.rewrite d e log.rewrites [] (other.holds log.rewrites [] log.rewrite) (pipe_as_before p.rewrite q.rewrite d e other);
       });
       later = c.in_err-rotate.ensures.later;
+      cause =
+          let old = g.F.FileSystem.meter c.args.files.now in
+          let new = g.F.FileSystem.meter c.rotate.new.files in
+          refused old new c.from_residual.result c.in_err-rotate.field-0.0 c.from_residual.ensures.1 (call_cause old new _ _ c.in_err-rotate.field-0.0 c.in_err-rotate.ensures.cause);
     }
 
 pub returns : goal.returns
@@ -50,4 +55,5 @@ returns g c =
       };
       left = tt;
       later = c.in_ok-rotate.ensures.later;
+      cause = tt;
     }

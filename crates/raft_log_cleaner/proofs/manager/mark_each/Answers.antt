@@ -1,5 +1,6 @@
 -- The cleaning goes on with each group.
 use Rattle.raft_log_disk.proofs.RefusalLemmas.{no_more_same, no_more_then}
+use Rattle.raft_log_cleaner.proofs.Caused.{refused_then}
 use Rattle.raft_log_cleaner.proofs.Going.{gone_done, gone_more, gone_refused, not_yet}
 use Rattle.raft_log_cleaner.proofs.manager.mark_each.Goals as goal
 
@@ -16,6 +17,7 @@ pub returns-in_err-mark : goal.returns-in_err-mark
 returns-in_err-mark g c = record {
   goes_on = gone_refused c.from_residual.result c.in_err-mark.field-0.0 c.from_residual.ensures.1 c.loop-group.invariant.gone c.in_err-mark.ensures.goes_on;
   later = no_more_then c.loop-group.invariant.later c.in_err-mark.ensures.later;
+  cause = refused_then c.loop-group.invariant.later (g.F.FileSystem.meter c.mark.new.files) c.from_residual.result c.in_err-mark.field-0.0 c.from_residual.ensures.1 c.in_err-mark.ensures.cause;
 }
 
 pub loop-group-preserved : goal.loop-group-preserved
@@ -25,4 +27,4 @@ loop-group-preserved g c = record {
 }
 
 pub returns : goal.returns
-returns g c = record { goes_on = gone_done tt c.loop-group.invariant.gone; later = c.loop-group.invariant.later }
+returns g c = record { goes_on = gone_done tt c.loop-group.invariant.gone; later = c.loop-group.invariant.later; cause = tt }

@@ -4,6 +4,7 @@ use Rattle.raft_log_disk.proofs.RefusalLemmas.{no_more_then}
 use Rattle.raft_log_memtables.specs.Content.{Content}
 use Rattle.raft_log_blocks.proofs.HeldLemmas.{then_as_before}
 use Rattle.raft_log_cleaner.specs.Cleaning.{CanClean}
+use Rattle.raft_log_cleaner.proofs.Caused.{cause_then, refused}
 use Rattle.raft_log_cleaner.proofs.Ends.{begins_with}
 use Rattle.raft_log_cleaner.proofs.Going.{none_ok, when_err}
 use Rattle.raft_log_cleaner.proofs.Keeping.{err_then, ok_then}
@@ -25,6 +26,7 @@ returns-in_err-write_each g c =
       kept = none_ok _ _ c.from_residual.result c.from_residual.ensures.1;
       left = when_err c.from_residual.result (c.in_err-write_each.ensures.goes_on.left c.requires.0 (begun c.requires.0 c.requires.1));
       later = c.in_err-write_each.ensures.later;
+      cause = refused (g.F.FileSystem.meter c.args.files.now) (g.F.FileSystem.meter c.write_each.new.files) c.from_residual.result c.in_err-write_each.field-0.0 c.from_residual.ensures.1 c.in_err-write_each.ensures.cause;
     }
 
 pub finish-requires-after_bounds : goal.finish-requires-after_bounds
@@ -51,4 +53,5 @@ returns g c =
       kept = ok_then c.finish.result d e f p q r goes_on.kept finishes.kept;
       left = err_then c.finish.result d e f p q r goes_on.kept (finishes.left c.requires.0 (goes_on.ok c.requires.0 (begun c.requires.0 c.requires.1)));
       later = no_more_then c.in_ok-write_each.ensures.later c.finish.ensures.later;
+      cause = cause_then c.in_ok-write_each.ensures.later (g.F.FileSystem.meter c.finish.new.files) c.finish.result c.finish.ensures.cause;
     }

@@ -7,6 +7,7 @@ use Rattle.raft_log_traces.specs.GroupTraces.{traces_in}
 use Rattle.raft_log_cleaner.proofs.Calls.{goes_then}
 use Rattle.raft_log_cleaner.proofs.Stood.{err_stands, ok_both, refused_stands}
 use Rattle.raft_log_cleaner.proofs.Going.{when_ok}
+use Rattle.raft_log_cleaner.proofs.Caused.{cause_then}
 use Rattle.raft_log_cleaning.proofs.cleaning.clean_all.Goals as goal
 
 pub purge_append_files-requires-after_bounds : goal.purge_append_files-requires-after_bounds
@@ -25,6 +26,7 @@ returns-in-Err g c =
       count = tt;
       held = tt;
       later = c.in-Err.ensures.later;
+      cause = c.in-Err.ensures.cause;
     }
 
 pub returns : goal.returns
@@ -49,4 +51,5 @@ returns g c =
       count = subst (λ (n : ℕ). IfOk c.purge_append_files.result (λ m. n + m ≡ first_of r.append)) rewritten.kept.first went.count;
       held = when_ok c.purge_append_files.result (went.held ∙ rewritten.kept.rewrites);
       later = no_more_then rewritten.later went.later;
+      cause = cause_then rewritten.later (g.F.FileSystem.meter c.purge_append_files.new.files) c.purge_append_files.result went.cause;
     }

@@ -2,6 +2,7 @@
 use Rattle.std.proofs.Common.{◌∙◌}
 use Rattle.std.proofs.lemmas.Result.{on_ok_weaker}
 use Rattle.raft_log_disk.proofs.RefusalLemmas.{no_more_then}
+use Rattle.raft_log_cleaner.proofs.Caused.{cause_then}
 use Rattle.raft_log_cleaning.proofs.Behind.{barrier_both, cleans_both, counted_behind, keeps_both, purged_behind, stands_both}
 use Rattle.raft_log_cleaning.proofs.cleaning.purge_stale.Goals as goal
 
@@ -33,4 +34,5 @@ returns g c =
       replaced = on_ok_weaker result (λ held. held ∙ one.anew.rewrite) two.held;
       count = counted_behind result p q r one.append two.count;
       later = no_more_then one.later two.later;
+      cause = cause_then one.later (g.F.FileSystem.meter c.clean_all.new.files) result two.cause;
     }

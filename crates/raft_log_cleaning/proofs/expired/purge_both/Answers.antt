@@ -4,6 +4,7 @@ use Rattle.raft_log_cleaner.proofs.Calls.{cleans_refused}
 use Rattle.raft_log_cleaner.proofs.Going.{when_err}
 use Rattle.raft_log_cleaner.specs.Told.{is_among}
 use Rattle.raft_log_traces.specs.GroupTraces.{traces_in}
+use Rattle.raft_log_cleaner.proofs.Caused.{cause_then}
 use Rattle.raft_log_cleaning.specs.Told.{is_named}
 use Rattle.std.proofs.Common.{sym, ◌∙◌}
 use Rattle.std.proofs.lemmas.Result.{on_ok_weaker}
@@ -45,4 +46,5 @@ returns g c =
       replaced = on_ok_weaker result (λ held. held ∙ one.anew.rewrite) two.held;
       threshold = two.threshold;
       later = no_more_then one.later two.later;
+      cause = cause_then one.later (g.F.FileSystem.meter c.purge_appends.new.files) result two.cause;
     }

@@ -62,4 +62,5 @@ returns g c =
       append = done.append;
       barrier = λ barrier. from_any result d e p q barrier done.kept;
       later = done.later;
+      cause = done.cause;
     }

@@ -7,7 +7,7 @@ use Rattle.raft_log_pipe.proofs.BlockLemmas.{same_files, then_files}
 use Rattle.raft_log_blocks.specs.Held.{HoldsMore}
 use Rattle.raft_log_blocks.proofs.HeldLemmas.{then_as_before}
 use Rattle.raft_log_engine.proofs.Appended.{appended_more, set_then, still_stands, synced_more, unsynced_leaves, unsynced_torn}
-use Rattle.raft_log_disk.proofs.RefusalLemmas.{no_more_then, still_free}
+use Rattle.raft_log_disk.proofs.RefusalLemmas.{no_more_then, spends_then, still_free}
 use Rattle.raft_log_records.specs.declared.file_id.FileBlockHandle.{FileBlockHandle}
 use Rattle.raft_log_engine.proofs.Taken.{sync_for}
 use Rattle.std.proofs.Common.{ℕ}
@@ -68,6 +68,10 @@ returns-in_err-sync-clause-later g c = no_more_then c.in_ok-handle.ensures.later
 
 pub returns-clause-later : goal.returns-clause-later
 returns-clause-later g c = no_more_then c.in_ok-handle.ensures.later c.in_ok-sync.ensures.later
+
+pub returns-clause-spends : goal.returns-clause-spends
+returns-clause-spends g c = λ synced.
+    spends_then (g.F.FileSystem.meter c.args.files.now) (g.F.FileSystem.meter c.append.new.files) (g.F.FileSystem.meter c.sync.new.files) c.in_ok-handle.ensures.later c.in_ok-sync.ensures.spends
 
 pub returns-in_err-sync-clause-taken : goal.returns-in_err-sync-clause-taken
 returns-in_err-sync-clause-taken g c = λ free.

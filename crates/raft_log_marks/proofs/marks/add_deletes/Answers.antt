@@ -17,4 +17,4 @@ loop-name-preserved c =
     let name = get_or names index (record { ref_ptr = (0, 0); now = [] }) in
     let more : shown (take (index + 1) names) ≡ shown (take index names) ++ name.now ∷ [] = map_more (λ (n : Bor (List ℕ)). n.now) names index (record { ref_ptr = (0, 0); now = [] }) c.loop-name-test.true in
     added_both c.args.raft_group_id (deletes (shown (take index names))) (delete name.now ∷ []) (deletes (shown (take (index + 1) names))) c.args.batch.now.items c.loop-name.batch.items c.add_delete.new.batch.items
-    (ap deletes more ∙ deletes_more (shown (take index names)) name.now) c.loop-name.invariant c.in_ok-add_delete.ensures
+    (ap deletes more ∙ deletes_more (shown (take index names)) name.now) c.loop-name.invariant c.in_ok-add_delete.ensures.added

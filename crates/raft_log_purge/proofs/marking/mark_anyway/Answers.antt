@@ -11,4 +11,4 @@ returns-in_default-clause-steps c = λ content there.
 
 pub returns-clause-steps : goal.returns-clause-steps
 returns-clause-steps c = λ content there.
-    marked_group content (traces_in c.args.traces.now) (traces_in c.set_marked.new.self) (trace_in c.in-Some.trace.now) c.args.group true c.args.batch.now.items c.add_marks.new.batch.items there c.in-Some.ensures c.in_ok-add_marks.ensures c.set_marked.ensures
+    marked_group content (traces_in c.args.traces.now) (traces_in c.set_marked.new.self) (trace_in c.in-Some.trace.now) c.args.group true c.args.batch.now.items c.add_marks.new.batch.items there c.in-Some.ensures c.in_ok-add_marks.ensures.added c.set_marked.ensures

@@ -10,4 +10,4 @@ returns-clause-steps c = λ content front.
     let entries = c.args.entries.now in
     let same : length (payloads entries) ≡ length entries = length-map entries _ in
     front_rewritten content (traces_in c.args.traces.now) (traces_in c.set_rewritten.new.self) c.args.group c.args.first (c.args.first + length entries) (payloads entries) c.args.batch.now.items c.add_run.new.batch.items
-    (subst (λ (n : ℕ). 0 < n) (sym same) c.requires.some) (ap (λ (n : ℕ). c.args.first + n) (sym same)) front c.in_ok-add_run.ensures c.set_rewritten.ensures
+    (subst (λ (n : ℕ). 0 < n) (sym same) c.requires.some) (ap (λ (n : ℕ). c.args.first + n) (sym same)) front c.in_ok-add_run.ensures.added c.set_rewritten.ensures

@@ -1,6 +1,7 @@
 -- It goes on with each chunk.
 use Rattle.std.proofs.Common.{◌≡◌, ℕ, refl, subst, ◌∙◌, arith}
 use Rattle.raft_log_disk.proofs.RefusalLemmas.{no_more_same, no_more_then}
+use Rattle.raft_log_cleaner.proofs.Caused.{refused_then}
 use Rattle.raft_log_rewriter.specs.Parts.Stage.{entries_to}
 use Rattle.raft_log_rewriter.specs.Rewriting.{IsRewriting, at}
 use Rattle.raft_log_traces.specs.GroupTraces.{traces_in}
@@ -30,6 +31,7 @@ returns-in_err-add_chunk g c = record {
   goes_on = come_refused c.from_residual.result c.in_err-add_chunk.field-0.0 c.from_residual.ensures.1 c.loop-begin.invariant.come (c.in_err-add_chunk.ensures.goes_on c.args.range.0);
   traces = c.loop-begin.invariant.traces;
   later = c.loop-begin.invariant.later;
+  cause = refused_then c.loop-begin.invariant.later (g.F.FileSystem.meter c.loop-begin.files) c.from_residual.result c.in_err-add_chunk.field-0.0 c.from_residual.ensures.1 c.in_err-add_chunk.ensures.cause;
 }
 
 pub write_part-requires-after_bounds : goal.write_part-requires-after_bounds
@@ -43,6 +45,7 @@ returns-in_err-write_part g c = record {
       (come_more tt c.loop-begin.invariant.come (c.in_ok-add_chunk.ensures.goes_on c.args.range.0)) (c.in_err-write_part.ensures.goes_on (entries_to c.args.group c.args.range.0 c.add_chunk.new.begin));
   traces = c.in_err-write_part.ensures.traces ∙ c.loop-begin.invariant.traces;
   later = no_more_then c.loop-begin.invariant.later c.in_err-write_part.ensures.later;
+  cause = refused_then c.loop-begin.invariant.later (g.F.FileSystem.meter c.write_part.new.files) c.from_residual-in_err-write_part.result c.in_err-write_part.field-0.0 c.from_residual-in_err-write_part.ensures.1 c.in_err-write_part.ensures.cause;
 }
 
 pub loop-begin-preserved : goal.loop-begin-preserved
@@ -66,4 +69,5 @@ returns g c =
           (λ next groups content s t. subst (λ (n : ℕ). IsRewriting f c.loop-begin.pipes c.loop-begin.log c.loop-begin.writer next (at (entries_to c.args.group c.args.range.0 n) groups) content) all t));
       traces = c.loop-begin.invariant.traces;
       later = c.loop-begin.invariant.later;
+      cause = tt;
     }

@@ -5,6 +5,7 @@ use Rattle.std.specs.declared.alloc.Global.{Global}
 use Rattle.std.proofs.lemmas.List.{map_more, take_all}
 use Rattle.raft_log_disk.proofs.RefusalLemmas.{no_more_same, no_more_then}
 use Rattle.raft_log_records.specs.Batch.{payloads}
+use Rattle.raft_log_cleaner.proofs.Caused.{refused_then}
 use Rattle.raft_log_rewriter.specs.Parts.Stage.{keys_to}
 use Rattle.raft_log_rewriter.specs.Rewriting.{IsRewriting, at}
 use Rattle.raft_log_rewriter.proofs.Steps.{come_done, come_more, come_refused, come_seen, not_yet}
@@ -19,9 +20,10 @@ loop-name-init g c = record {
 
 pub returns-in_err-add_key : goal.returns-in_err-add_key
 returns-in_err-add_key g c = record {
-  goes_on = λ first stop. come_refused c.from_residual.result c.in_err-add_key.field-0.0 c.from_residual.ensures.1 (c.loop-name.invariant.come first stop) (c.in_err-add_key.ensures (g.F.FileSystem.disk c.loop-name.files) c.loop-name.pipes first stop _);
+  goes_on = λ first stop. come_refused c.from_residual.result c.in_err-add_key.field-0.0 c.from_residual.ensures.1 (c.loop-name.invariant.come first stop) (c.in_err-add_key.ensures.goes_on (g.F.FileSystem.disk c.loop-name.files) c.loop-name.pipes first stop _);
   traces = c.loop-name.invariant.traces;
   later = c.loop-name.invariant.later;
+  cause = refused_then c.loop-name.invariant.later (g.F.FileSystem.meter c.loop-name.files) c.from_residual.result c.in_err-add_key.field-0.0 c.from_residual.ensures.1 (c.in_err-add_key.ensures.cause (g.F.FileSystem.meter c.loop-name.files));
 }
 
 pub write_part-requires-after_bounds : goal.write_part-requires-after_bounds
@@ -32,9 +34,10 @@ write_part-requires-after_bounds g c κs within =
 pub returns-in_err-write_part : goal.returns-in_err-write_part
 returns-in_err-write_part g c = record {
   goes_on = λ first stop. come_refused c.from_residual-in_err-write_part.result c.in_err-write_part.field-0.0 c.from_residual-in_err-write_part.ensures.1
-      (come_more tt (c.loop-name.invariant.come first stop) (c.in_ok-add_key.ensures (g.F.FileSystem.disk c.loop-name.files) c.loop-name.pipes first stop _)) (c.in_err-write_part.ensures.goes_on _);
+      (come_more tt (c.loop-name.invariant.come first stop) (c.in_ok-add_key.ensures.goes_on (g.F.FileSystem.disk c.loop-name.files) c.loop-name.pipes first stop _)) (c.in_err-write_part.ensures.goes_on _);
   traces = c.in_err-write_part.ensures.traces ∙ c.loop-name.invariant.traces;
   later = no_more_then c.loop-name.invariant.later c.in_err-write_part.ensures.later;
+  cause = refused_then c.loop-name.invariant.later (g.F.FileSystem.meter c.write_part.new.files) c.from_residual-in_err-write_part.result c.in_err-write_part.field-0.0 c.from_residual-in_err-write_part.ensures.1 c.in_err-write_part.ensures.cause;
 }
 
 pub returns : goal.returns
@@ -46,6 +49,7 @@ returns g c =
           (λ next groups content s t. subst (λ (l : List (List ℕ)). IsRewriting f c.loop-name.pipes c.loop-name.log c.loop-name.writer next (at (keys_to c.args.group first stop l) groups) content) all t));
       traces = c.loop-name.invariant.traces;
       later = c.loop-name.invariant.later;
+      cause = tt;
     }
 
 pub loop-name-preserved : goal.loop-name-preserved
@@ -62,7 +66,7 @@ loop-name-preserved g c =
     ∙ ap (λ (l : List ℕ). before ++ l ∷ []) (sym c.deref.ensures.value) in
     record {
       come = λ first stop.
-          come_seen (come_more tt (come_more tt (c.loop-name.invariant.come first stop) (c.in_ok-add_key.ensures d c.loop-name.pipes first stop before)) (c.in_ok-write_part.ensures.goes_on (keys_to c.args.group first stop (before ++ c.deref.result.now ∷ []))))
+          come_seen (come_more tt (come_more tt (c.loop-name.invariant.come first stop) (c.in_ok-add_key.ensures.goes_on d c.loop-name.pipes first stop before)) (c.in_ok-write_part.ensures.goes_on (keys_to c.args.group first stop (before ++ c.deref.result.now ∷ []))))
           (λ n groups content s t. subst (λ (l : List (List ℕ)). IsRewriting f c.write_part.new.pipes c.write_part.new.log c.write_part.new.self n (at (keys_to c.args.group first stop l) groups) content) (sym next) t);
       traces = c.in_ok-write_part.ensures.traces ∙ c.loop-name.invariant.traces;
       later = no_more_then c.loop-name.invariant.later c.in_ok-write_part.ensures.later;

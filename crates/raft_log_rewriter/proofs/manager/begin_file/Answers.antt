@@ -4,6 +4,7 @@ use Rattle.raft_log_pipe.specs.Pipe.{first_of}
 use Rattle.raft_log_pipe.proofs.FirstLemmas.{begun_first}
 use Rattle.raft_log_cleaner.proofs.Going.{none_ok, when_err}
 use Rattle.raft_log_cleaner.proofs.Keeping.{pipe_as_before, pipe_left, pipe_refused}
+use Rattle.raft_log_cleaner.proofs.Caused.{call_cause, refused}
 use Rattle.raft_log_rewriter.proofs.Beginning.{file_begun, file_not_begun}
 use Rattle.raft_log_rewriter.proofs.manager.begin_file.Goals as goal
 
@@ -46,3 +47,9 @@ returns-clause-begins g c =
       };
       left = λ content can. tt;
     }
+
+pub returns-in_err-rotate-clause-cause : goal.returns-in_err-rotate-clause-cause
+returns-in_err-rotate-clause-cause g c =
+    let old = g.F.FileSystem.meter c.args.files.now in
+    let new = g.F.FileSystem.meter c.rotate.new.files in
+    refused old new c.from_residual.result c.in_err-rotate.field-0.0 c.from_residual.ensures.1 (call_cause old new _ _ c.in_err-rotate.field-0.0 c.in_err-rotate.ensures.cause)

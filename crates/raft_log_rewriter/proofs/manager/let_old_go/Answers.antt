@@ -1,10 +1,18 @@
 -- Old files that go.
-use Rattle.std.proofs.Common.{◌++◌, refl, [], ap}
+use Rattle.std.proofs.Common.{◌≤◌, ℕ, inl, inr, ◌++◌, refl, [], ap, arith}
+use Rattle.raft_log_pipe.specs.Blocks.{IsOutOfSpan}
 use Rattle.raft_log_pipe.specs.Pipe.{first_of}
-use Rattle.raft_log_cleaner.proofs.Going.{none_ok, when_err}
+use Rattle.raft_log_pipe.specs.declared.pipe.SinglePipe.{SinglePipe}
+use Rattle.raft_log_cleaner.proofs.Going.{failed, none_ok, when_err}
 use Rattle.raft_log_cleaner.proofs.Keeping.{pipe_as_before}
+use Rattle.raft_log_cleaner.proofs.Caused.{going_cause, refused}
+use Rattle.raft_log_purge.proofs.CausedLemmas as purge
 use Rattle.raft_log_rewriter.proofs.Letting.{files_gone, go_refused, holds_all, rest_leaves}
 use Rattle.raft_log_rewriter.proofs.manager.let_old_go.Goals as goal
+
+inside : (p : SinglePipe) (next : ℕ) → (first_of p ≤ next) × (next ≤ p.active.seq) → IsOutOfSpan p next → ⊥
+inside p next span (inl before) = absurd (omega (arith, span.0, before))
+inside p next span (inr behind) = absurd (omega (arith, span.1, behind))
 
 pub purge_to-requires-clause-pipe : goal.purge_to-requires-clause-pipe
 purge_to-requires-clause-pipe g c κs within = c.requires.1.stands.pipes.rewrite
@@ -45,3 +53,12 @@ returns-clause-lets_go g c =
       };
       left = λ content h. tt;
     }
+
+pub returns-in_err-purge_to-clause-cause : goal.returns-in_err-purge_to-clause-cause
+returns-in_err-purge_to-clause-cause g c =
+    let old = g.F.FileSystem.meter c.args.files.now in
+    let new = g.F.FileSystem.meter c.purge_to.new.files in
+    let e = c.in_err-purge_to.field-0.0 in
+    let p = c.args.pipes.now.rewrite in
+    refused old new c.from_residual.result e c.from_residual.ensures.1 (going_cause old new (failed {X = ℕ} e)
+    (purge.going_cause p (g.F.FileSystem.disk c.args.files.now) c.args.next old new (failed {X = ℕ} e) (inside p c.args.next c.requires.1.stands.span) c.in_err-purge_to.ensures.cause))

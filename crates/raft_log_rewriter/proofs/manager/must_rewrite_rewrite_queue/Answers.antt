@@ -4,6 +4,7 @@ use Rattle.raft_log_disk.proofs.RefusalLemmas.{no_more_then}
 use Rattle.raft_log_memtables.specs.Content.{Content}
 use Rattle.raft_log_cleaner.proofs.Going.{none_ok, when_err}
 use Rattle.raft_log_cleaner.proofs.Keeping.{ok_appends, pipes_then, pipes_then_left}
+use Rattle.raft_log_cleaner.proofs.Caused.{cause_then, refused, refused_then}
 use Rattle.raft_log_rewriter.specs.Standing.{CanRewrite, HasRewritten}
 use Rattle.raft_log_cleaner.proofs.Stood.{refused_stands}
 use Rattle.raft_log_rewriter.proofs.Calls.{err_stands, ok_is}
@@ -26,6 +27,7 @@ returns-in_err-next g c =
       kept = none_ok _ _ c.from_residual.result c.from_residual.ensures.1;
       left = when_err c.from_residual.result (λ content can. refused_stands d e p q content (begins.err content can) (begins.left content can));
       later = c.in_err-next.ensures.later;
+      cause = refused (g.F.FileSystem.meter c.args.files.now) (g.F.FileSystem.meter c.begin_file.new.files) c.from_residual.result c.in_err-next.field-0.0 c.from_residual.ensures.1 c.in_err-next.ensures.cause;
     }
 
 pub rewrite_groups-requires-after_bounds : goal.rewrite_groups-requires-after_bounds
@@ -52,6 +54,7 @@ returns-in_err-rewrite_groups g c =
       left = when_err c.from_residual-in_err-rewrite_groups.result
           (λ content can. refused_stands d f p r content (writes.err content (begins.ok content can)) (pipes_then_left d e f p q r begins.kept (writes.left content (begins.ok content can))));
       later = no_more_then c.in_ok-next.ensures.later c.in_err-rewrite_groups.ensures.later;
+      cause = refused_then c.in_ok-next.ensures.later (g.F.FileSystem.meter c.rewrite_groups.new.files) c.from_residual-in_err-rewrite_groups.result c.in_err-rewrite_groups.field-0.0 c.from_residual-in_err-rewrite_groups.ensures.1 c.in_err-rewrite_groups.ensures.cause;
     }
 
 pub let_old_go-requires-after_bounds : goal.let_old_go-requires-after_bounds
@@ -87,4 +90,5 @@ returns g c =
       kept = ok_appends c.let_old_go.result d f h p r t (pipes_then d e f p q r begins.kept writes.kept) goes.kept;
       left = err_stands c.let_old_go.result d f h p r t c.args.log.now (pipes_then d e f p q r begins.kept writes.kept) (λ content can. goes.left content (all content can));
       later = no_more_then (no_more_then c.in_ok-next.ensures.later c.in_ok-rewrite_groups.ensures.later) c.let_old_go.ensures.later;
+      cause = cause_then (no_more_then c.in_ok-next.ensures.later c.in_ok-rewrite_groups.ensures.later) (g.F.FileSystem.meter c.let_old_go.new.files) c.let_old_go.result c.let_old_go.ensures.cause;
     }

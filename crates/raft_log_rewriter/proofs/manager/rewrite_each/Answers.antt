@@ -2,6 +2,7 @@
 use Rattle.std.proofs.Common.{◌≡◌, ℕ, ◌+◌, ◌++◌, List, take, get_or, arith, subst}
 use Rattle.std.proofs.lemmas.List.{take_all, take_more}
 use Rattle.raft_log_disk.proofs.RefusalLemmas.{no_more_same, no_more_then}
+use Rattle.raft_log_cleaner.proofs.Caused.{refused_then}
 use Rattle.raft_log_rewriter.specs.Parts.Stage.{between}
 use Rattle.raft_log_rewriter.specs.Rewriting.{IsRewriting, at}
 use Rattle.raft_log_rewriter.proofs.Steps.{come_begun, come_done, come_next, come_refused, come_seen, come_shifted}
@@ -39,3 +40,6 @@ loop-group-preserved g c = record {
   group = c.in_ok-rewrite_group.ensures.group;
   later = no_more_then c.loop-group.invariant.later c.in_ok-rewrite_group.ensures.later;
 }
+
+pub returns-in_err-rewrite_group-clause-cause : goal.returns-in_err-rewrite_group-clause-cause
+returns-in_err-rewrite_group-clause-cause g c = refused_then c.loop-group.invariant.later (g.F.FileSystem.meter c.rewrite_group.new.files) c.from_residual.result c.in_err-rewrite_group.field-0.0 c.from_residual.ensures.1 c.in_err-rewrite_group.ensures.cause

@@ -3,12 +3,14 @@ use Rattle.std.proofs.Common.{ℕ, List, [], ◌++◌, sym, ap, ◌∙◌}
 use Rattle.std.specs.Ordering.{eq_by_cmp, nat_cmp}
 use Rattle.std.specs.Set.{is_member}
 use Rattle.raft_log_disk.proofs.RefusalLemmas.{no_more_same, no_more_then}
+use Rattle.raft_log_files.specs.declared.error.Error.TheVariants.{Memory}
 use Rattle.raft_log_memtables.specs.Content.{Content}
 use Rattle.raft_log_memtables.specs.MemTables.{content_in}
 use Rattle.raft_log_blocks.proofs.HeldLemmas.{then_as_before}
 use Rattle.raft_log_cleaner.proofs.Chunks.{are_there}
 use Rattle.raft_log_cleaner.proofs.Going.{none_ok, still_as_before, when_err}
 use Rattle.raft_log_cleaner.proofs.Keeping.{err_then, ok_then, pipes_then, pipes_then_left, same_pipes}
+use Rattle.raft_log_cleaner.proofs.Caused.{cause_then, refused, refused_then}
 use Rattle.raft_log_rewriter.specs.Parts.{unended_of}
 use Rattle.raft_log_rewriter.specs.Parts.Stage.{between}
 use Rattle.raft_log_rewriter.specs.Rewriting.{IsRewriting, at}
@@ -31,6 +33,7 @@ returns-in_err-groups g c =
         left = λ content s. when_err c.from_residual.result (stands_left d d p p c.args.log.now next [] content s (same_pipes d p));
       };
       later = no_more_same _ _;
+      cause = refused (g.F.FileSystem.meter c.args.files.now) (g.F.FileSystem.meter c.args.files.now) c.from_residual.result Memory c.from_residual.ensures.1 tt;
     }
 
 pub rewrite_each-requires-clause-rewriting : goal.rewrite_each-requires-clause-rewriting
@@ -56,6 +59,7 @@ returns-in_err-rewrite_each g c =
         left = λ content s. when_err c.from_residual-in_err-rewrite_each.result (each.left next [] content (begun next content s));
       };
       later = c.in_err-rewrite_each.ensures.later;
+      cause = refused (g.F.FileSystem.meter c.args.files.now) (g.F.FileSystem.meter c.rewrite_each.new.files) c.from_residual-in_err-rewrite_each.result c.in_err-rewrite_each.field-0.0 c.from_residual-in_err-rewrite_each.ensures.1 c.in_err-rewrite_each.ensures.cause;
     }
 
 pub write_whole-requires-clause-pipes : goal.write_whole-requires-clause-pipes
@@ -83,6 +87,7 @@ returns-in_err-write_whole g c =
         left = λ content s. when_err c.from_residual-in_err-write_whole.result (pipes_then_left d e f p q r each.kept (whole.left next c.deref.result.now content (each.ok next [] content (begun next content s))));
       };
       later = no_more_then c.in_ok-rewrite_each.ensures.later c.in_err-write_whole.ensures.later;
+      cause = refused_then c.in_ok-rewrite_each.ensures.later (g.F.FileSystem.meter c.write_whole.new.files) c.from_residual-in_err-write_whole.result c.in_err-write_whole.field-0.0 c.from_residual-in_err-write_whole.ensures.1 c.in_err-write_whole.ensures.cause;
     }
 
 pub sync_rewrites-requires-after_bounds : goal.sync_rewrites-requires-after_bounds
@@ -125,4 +130,5 @@ returns g c =
             err_then c.sync_rewrites.result d f h p r t (pipes_then d e f p q r each.kept whole.kept) (syncs.left next (x.ws ++ unended_of x.open_group) content x.stands);
       };
       later = no_more_then (no_more_then c.in_ok-rewrite_each.ensures.later c.in_ok-write_whole.ensures.later) c.sync_rewrites.ensures.later;
+      cause = cause_then (no_more_then c.in_ok-rewrite_each.ensures.later c.in_ok-write_whole.ensures.later) (g.F.FileSystem.meter c.sync_rewrites.new.files) c.sync_rewrites.result c.sync_rewrites.ensures.cause;
     }

@@ -4,6 +4,7 @@ use Rattle.raft_log_pipe.specs.Pipe.{first_of}
 use Rattle.raft_log_pipe.proofs.FirstLemmas.{same_first}
 use Rattle.raft_log_cleaner.proofs.Going.{none_ok, when_err}
 use Rattle.raft_log_cleaner.proofs.Keeping.{pipe_as_before, pipe_left, pipe_on}
+use Rattle.raft_log_cleaner.proofs.Caused.{call_cause, refused}
 use Rattle.raft_log_rewriter.proofs.Recording as recording
 use Rattle.raft_log_rewriter.proofs.writer.sync_rewrites.Goals as goal
 
@@ -48,3 +49,9 @@ returns-clause-syncs g c =
       };
       left = λ next ws content s. tt;
     }
+
+pub returns-in_err-sync-clause-cause : goal.returns-in_err-sync-clause-cause
+returns-in_err-sync-clause-cause g c =
+    let old = g.F.FileSystem.meter c.args.files.now in
+    let new = g.F.FileSystem.meter c.sync.new.files in
+    refused old new c.from_residual.result c.in_err-sync.field-0.0 c.from_residual.ensures.1 (call_cause old new ⊥ ⊥ c.in_err-sync.field-0.0 c.in_err-sync.ensures.cause)

@@ -14,9 +14,11 @@ use Rattle.raft_log_memtables.specs.MemTables.{content_in}
 use Rattle.raft_log_recovery.proofs.LengthLemmas.{placed_lengths}
 use Rattle.raft_log_traced.specs.Places.{items_moved}
 use Rattle.raft_log_blocks.proofs.NewEntries.{block_fits}
+use Rattle.raft_log_disk.specs.Cause.{Lacks}
 use Rattle.raft_log_disk.proofs.RefusalLemmas.{no_more_same}
 use Rattle.raft_log_cleaner.proofs.Going.{none_ok, when_err}
 use Rattle.raft_log_cleaner.proofs.Keeping.{pipe_as_before, pipe_left, pipe_refused}
+use Rattle.raft_log_cleaner.proofs.Caused.{pipe_cause, refused, told_as, written_cause}
 use Rattle.raft_log_rewriter.specs.Standing.{WritesRecord}
 use Rattle.raft_log_rewriter.proofs.Recording as recording
 use Rattle.raft_log_rewriter.proofs.Steps.{record_failed}
@@ -103,3 +105,14 @@ returns-clause-writes g c =
       };
       left = λ next ws more content s m. tt;
     }
+
+pub returns-in-Err-clause-cause : goal.returns-in-Err-clause-cause
+returns-in-Err-clause-cause g c =
+    let meter = g.F.FileSystem.meter c.args.files.now in
+    told_as meter meter c.of_record.result _ c.of_record.ensures (written_cause meter meter c.in-Err.error c.in-Err.ensures.err.0)
+
+pub returns-in_err-written-clause-cause : goal.returns-in_err-written-clause-cause
+returns-in_err-written-clause-cause g c =
+    let old = g.F.FileSystem.meter c.args.files.now in
+    let new = g.F.FileSystem.meter c.append.new.files in
+    refused old new c.from_residual.result c.in_err-written.field-0.0 c.from_residual.ensures.1 (pipe_cause old new (Lacks 2 old new) _ _ (λ lacks. lacks) c.in_err-written.field-0.0 c.in_err-written.ensures.cause)

@@ -1,6 +1,7 @@
 use Rattle.std.proofs.Common.{◌≡◌, inr, List, [], ◌∷◌, map, string_bytes, ap, sym, subst, ◌∙◌, rules}
 use Rattle.std.specs.declared.alloc.Global.{Global}
 use Rattle.raft_log_records.specs.declared.file_id.LogQueue.TheVariants.{Append, Rewrite}
+use Rattle.raft_log_disk.proofs.RefusalLemmas.{no_more_then}
 use Rattle.raft_log_disk.specs.Disk.{Disk}
 use Rattle.raft_log_disk.specs.Text.{Text}
 use Rattle.raft_log_files.specs.declared.error.Error.{Error}
@@ -44,3 +45,12 @@ returns-in_err-append-clause-cause g c =
       file_refusal_then d mid (c.args.directory.now ∷ []) free free_then a b n e c.holes_of_queue.ensures.kept c.holes_of_queue.ensures.later
           (subst (λ (l : List Text). IsFileRefusal mid l free_then b n e) same c.in_err-append.ensures.cause),
     ))
+
+pub returns-in_err-append-clause-later : goal.returns-in_err-append-clause-later
+returns-in_err-append-clause-later g c = no_more_then c.holes_of_queue.ensures.later c.holes_of_queue-2.ensures.later
+
+pub returns-in_err-told_by_both-clause-later : goal.returns-in_err-told_by_both-clause-later
+returns-in_err-told_by_both-clause-later g c = no_more_then c.holes_of_queue.ensures.later c.holes_of_queue-2.ensures.later
+
+pub returns-clause-later : goal.returns-clause-later
+returns-clause-later g c = no_more_then c.holes_of_queue.ensures.later c.holes_of_queue-2.ensures.later

@@ -29,7 +29,7 @@ open_to_read-requires-clause-place g c κs within =
 pub loop-name-init : goal.loop-name-init
 loop-name-init g c = record {
   kept = refl;
-  later = record { fuse = λ x. x; reads = refl; sound = refl; room = λ x. x; counts = omega arith; spaces = omega arith };
+  later = record { fuse = λ x. x; burns = λ n is. (n, is, omega arith); reads = refl; sound = refl; room = λ x. x; counts = omega arith; spaces = omega arith };
   given = gives_none (g.M.ReplayMachine.has_replayed c.args.machine.now);
 }
 

@@ -20,6 +20,7 @@ returns-in-Err-open-clause-err g c =
         named = subst (λ (s : Stop). s.cause ≡ cause_of_log met.refused.fault) (sym made.ensures.stop) refl;
         caused = met.ensures.cause;
         free = met.ensures.taken;
+        later = met.ensures.later;
       }));
       found = λ content f.
           let here = subst (λ (files : LogFiles). IsFoundAs files content) made.ensures.files f in
@@ -40,6 +41,7 @@ returns-in-Err-open_by_workers-clause-err g c =
         named = subst (λ (s : Stop). s.cause ≡ cause_of_log met.refused.fault) (sym made.ensures.stop) refl;
         caused = met.ensures.cause;
         free = met.ensures.taken;
+        later = met.ensures.later;
       }));
       found = λ content f.
           let here = subst (λ (files : LogFiles). IsFoundAs files content) made.ensures.files f in

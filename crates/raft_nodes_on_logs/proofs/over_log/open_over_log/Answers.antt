@@ -1,3 +1,6 @@
+use Rattle.std.specs.Prelude.{None, option_and_then}
+use Rattle.raft_node_faults.specs.Fault.{storage_fault_of}
+use Rattle.raft_store.specs.Faults.{log_fault}
 use Rattle.std.proofs.Common.{[], ◌∷◌, inl, inr, subst, sym}
 use Rattle.raft_nodes_on_logs.specs.Kept.{AreShownDown, shows}
 use Rattle.raft_nodes_on_logs.specs.Kinds.{kind_of}
@@ -21,6 +24,9 @@ returns-in-Ok-clause-ok g c =
         shown = λ group. c.new.ensures.shown group (kept group ∷ []) log.ensures.leaves (inl (held.held group));
         reached = held.reached;
       });
+      log = log.log;
+      opens = log.ensures.opens;
+      met = subst (λ (l : k.Log). k.meets l c.in-Ok.opened.node.groups.storage.log None) c.new.ensures.log e.met;
     }
 
 pub returns-in-Err-clause-err : goal.returns-in-Err-clause-err
@@ -42,4 +48,9 @@ returns-in-Err-clause-err g c =
             shown = λ group. c.new.ensures.shown group (kept group ∷ []) log.ensures.leaves (inl (held.held group));
             reached = held.reached;
           }));
+      log = log.log;
+      opens = log.ensures.opens;
+      behind = storage.log;
+      met = subst (λ (l : k.Log). k.meets l storage.log (option_and_then log_fault (storage_fault_of c.in-Err.field-0.fault))) c.new.ensures.log e.met;
+      hands_back = subst (λ (l : k.Log). k.hands_back l c.into_files.result) c.into_log.ensures c.into_files.ensures.hands_back;
     })

@@ -1,5 +1,5 @@
 -- No group is answered.
-use Rattle.std.proofs.Common.{◌≡◌, nat_cmp, subst, sym}
+use Rattle.std.proofs.Common.{nat_cmp, subst, sym}
 use Rattle.std.specs.List.Sorted.{IsStrictlySortedBy}
 use Rattle.raft_content_log.proofs.plain_log.PlainLogCleanLog.clean.Goals as goal
 

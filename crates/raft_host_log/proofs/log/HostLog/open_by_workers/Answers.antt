@@ -23,6 +23,7 @@ use Rattle.raft_log_files.specs.declared.error.OtherFault.{OtherFault}
 use Rattle.raft_log_engine.specs.Unopened.{IsOpeningFault}
 use denote.Param.Send.{sendable}
 use Rattle.raft_log_host.proofs.Sent.{files_sent, files_shared}
+use Rattle.raft_log_files.specs.declared.recovery.RecoveryMode.TheVariants.{TolerateTailCorruption}
 use Rattle.raft_host_log.proofs.log.HostLog.open_by_workers.Goals as goal
 
 pub invariant_of-result : goal.invariant_of-result
@@ -86,7 +87,7 @@ returns-in-Err-clause-cause g c =
     let free = is_bounded_in c.args.files.files.memory in
     let a = host_meter c.args.files.files in
     let b = host_meter c.in-Err.field-0.files in
-    subst (λ (o : Option OtherFault). IsOpeningFault o c.args.files.settings.recovery_mode (main_directory c.args.files.settings) d left free a b c.in-Err.field-0.fault) c.in-Ok.ensures.fault
+    subst (λ (o : Option OtherFault). IsOpeningFault o TolerateTailCorruption (main_directory c.args.files.settings) d left free a b c.in-Err.field-0.fault) c.in-Ok.ensures.fault
     (along (λ m l. IsOpeningFault (settings_fault (settings_of c.in-Ok.config)) m l d left free a b c.in-Err.field-0.fault) c.in-Ok.ensures.mode c.in-Ok.ensures.directories c.in-Err.ensures.cause)
 
 pub open_with_file_system-requires-send-F : goal.open_with_file_system-requires-send-F

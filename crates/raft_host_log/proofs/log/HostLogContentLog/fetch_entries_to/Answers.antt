@@ -1,12 +1,13 @@
 -- A read changes nothing that is said of a log.
-use Rattle.std.proofs.Common.{◌≡◌, ◌-◌, ap, length, rules, ◌∙◌}
+use Rattle.std.proofs.Common.{◌≡◌, ◌-◌, ap, length, rules, ◌∙◌, sym}
 use Rattle.std.proofs.lemmas.List.{length-map}
-use Rattle.raft_log_host.specs.Mirror.{OnHost, host_disk}
+use Rattle.raft_log_host.specs.Mirror.{OnHost, host_disk, host_meter}
 use Rattle.raft_log_records.specs.Batch.{payloads}
 use Rattle.raft_log_engine.specs.Parts.{Parts}
 use Rattle.raft_log_engine.specs.Left.{answers_on}
 use Rattle.raft_log_engine.proofs.Crashes.{log_on}
 use Rattle.raft_log_engine.proofs.Fetched.{all_read}
+use Rattle.raft_log_engine.proofs.Fitting.{all_fetched}
 use denote.Param.Send.{sendable}
 use Rattle.raft_log_host.proofs.Sent.{files_sent, files_shared}
 use Rattle.raft_host_log.proofs.log.HostLogContentLog.fetch_entries_to.Goals as goal
@@ -40,3 +41,11 @@ fetch_entries_to-requires-send-F c κs = search (sendable, files_sent)
 
 pub fetch_entries_to-requires-sync-F : goal.fetch_entries_to-requires-sync-F
 fetch_entries_to-requires-sync-F c κs = search (sendable, files_shared)
+
+-- where all are there, as many are fetched
+pub returns-then-len-saturating_sub-clause-fits : goal.returns-then-len-saturating_sub-clause-fits
+returns-then-len-saturating_sub-clause-fits c =
+    let all = c.in_ok-found.found.items in
+    let other : (length all ≡ c.args.end - c.args.begin) → ⊥ = search rules in
+    rw (← c.self.view_is) (λ sound some there misuse.
+    other (sym (length-map all (λ v. v.items)) ∙ all_fetched host_disk host_meter c.self.inside.engine c.args.group c.args.begin c.args.end some there (payloads all) c.in_ok-found.ensures.found))

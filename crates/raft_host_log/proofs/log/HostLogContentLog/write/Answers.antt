@@ -1,7 +1,8 @@
 -- A write keeps what the log says of its files; a refused one stops it.
-use Rattle.std.proofs.Common.{◌∙◌, refl, sym}
+use Rattle.std.proofs.Common.{◌∙◌, inl, refl, sym}
 use Rattle.std.proofs.lemmas.Bool.{false≢true}
-use Rattle.raft_log_host.specs.Mirror.{host_disk}
+use Rattle.raft_log_host.specs.Mirror.{host_disk, host_meter}
+use Rattle.raft_log_engine.proofs.Fitting.{fit_write}
 use Rattle.raft_log_engine.proofs.Reopened.{same_directories}
 use Rattle.raft_log_engine.proofs.Logs.{is_refused, is_written, refused_others, written_in_main, written_others}
 use denote.Param.Send.{sendable}
@@ -55,3 +56,12 @@ write-requires-send-F c κs = search (sendable, files_sent)
 
 pub write-requires-sync-F : goal.write-requires-sync-F
 write-requires-sync-F c κs = search (sendable, files_shared)
+
+pub returns-in-Ok-clause-met : goal.returns-in-Ok-clause-met
+returns-in-Ok-clause-met c =
+    let e = c.in-Ok.ensures in
+    rw (← c.self.view_is) (record { later = e.later; sound = λ none going. going; cause = tt; stores = λ none. inl (e.spends refl) })
+
+pub returns-in-Err-clause-fits : goal.returns-in-Err-clause-fits
+returns-in-Err-clause-fits c =
+    rw (← c.self.view_is) (λ on plain takes. fit_write host_disk c.self.inside.engine (host_meter c.self.inside.engine.files) (host_meter c.write.new.self.files) c.args.batch.now.items c.in-Err.fault c.in-Err.ensures.cause plain takes)

@@ -3,6 +3,8 @@ use Rattle.std.proofs.Common.{ap, ◌∙◌}
 use Rattle.raft_log_disk.proofs.RefusalLemmas.{no_more_then}
 use Rattle.raft_log_pipe.specs.Pipe.{first_of}
 use Rattle.raft_log_traces.specs.GroupTraces.{traces_in}
+use Rattle.raft_log_cleaner.proofs.Caused as caused
+use Rattle.raft_log_cleaner.proofs.Caused.{cause_then}
 use Rattle.raft_log_cleaner.proofs.Calls.{barrier_same, barrier_then, cleans_refused, cleans_then, goes_then}
 use Rattle.raft_log_cleaner.proofs.Going.{none_ok, when_err, when_ok}
 use Rattle.raft_log_cleaner.proofs.Stood.{err_stands, ok_both, refused_stands}
@@ -21,6 +23,7 @@ returns-in_err-rewrite_groups g c =
       both = none_ok _ _ c.from_residual.result c.from_residual.ensures.1;
       stands = when_err c.from_residual.result (λ content can. refused_stands d e c.args.pipes.now c.rewrite_groups.new.pipes content (refused.cleans.err content can) refused.left);
       later = refused.later;
+      cause = caused.refused (g.F.FileSystem.meter c.args.files.now) (g.F.FileSystem.meter c.rewrite_groups.new.files) c.from_residual.result c.in_err-rewrite_groups.field-0.0 c.from_residual.ensures.1 refused.cause;
     }
 
 pub purge_append_files-requires-after_bounds : goal.purge_append_files-requires-after_bounds
@@ -44,4 +47,5 @@ returns g c =
       both = ok_both c.purge_append_files.result d e f p q r one.kept went.both;
       stands = err_stands c.purge_append_files.result d e f p q r c.args.log.now c.rewrite_groups.new.log one.kept (λ content can. one.cleans.ok content can) went.stands;
       later = no_more_then one.later went.later;
+      cause = cause_then one.later (g.F.FileSystem.meter c.purge_append_files.new.files) c.purge_append_files.result went.cause;
     }

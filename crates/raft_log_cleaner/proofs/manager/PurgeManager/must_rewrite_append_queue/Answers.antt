@@ -1,5 +1,7 @@
 -- The last file, the groups, and what is written of them.
+use Rattle.raft_log_files.specs.declared.error.Error.TheVariants.{Memory}
 use Rattle.raft_log_disk.proofs.RefusalLemmas.{no_more_then}
+use Rattle.raft_log_cleaner.proofs.Caused.{cause_then, refused}
 use Rattle.raft_log_cleaner.proofs.Calls.{cleans_refused, cleans_then}
 use Rattle.raft_log_cleaner.proofs.Going.{none_ok, when_err}
 use Rattle.raft_log_cleaner.proofs.Ends.{can_be_left, can_leave}
@@ -12,6 +14,7 @@ returns-in_err-last g c = record {
   kept = none_ok _ _ c.from_residual.result c.from_residual.ensures.1;
   left = when_err c.from_residual.result c.in_err-last.ensures.left;
   later = c.in_err-last.ensures.later;
+  cause = refused (g.F.FileSystem.meter c.args.files.now) (g.F.FileSystem.meter c.last_file.new.files) c.from_residual.result c.in_err-last.field-0.0 c.from_residual.ensures.1 c.in_err-last.ensures.cause;
 }
 
 pub returns-in_err-groups : goal.returns-in_err-groups
@@ -29,6 +32,7 @@ returns-in_err-groups g c =
       kept = none_ok _ _ c.from_residual-in_err-groups.result c.from_residual-in_err-groups.ensures.1;
       left = when_err c.from_residual-in_err-groups.result (can_be_left d e p q c.args.log.now c.requires.0 (begun.cleans.ok c.requires.0 c.requires.1) begun.kept);
       later = begun.later;
+      cause = refused (g.F.FileSystem.meter c.args.files.now) (g.F.FileSystem.meter c.last_file.new.files) c.from_residual-in_err-groups.result Memory c.from_residual-in_err-groups.ensures.1 tt;
     }
 
 pub clean_groups-requires-after_bounds : goal.clean_groups-requires-after_bounds
@@ -47,4 +51,5 @@ returns g c =
       kept = ok_then c.clean_groups.result d e f p q r c.in_ok-last.ensures.kept c.clean_groups.ensures.kept;
       left = err_then c.clean_groups.result d e f p q r c.in_ok-last.ensures.kept c.clean_groups.ensures.left;
       later = no_more_then c.in_ok-last.ensures.later c.clean_groups.ensures.later;
+      cause = cause_then c.in_ok-last.ensures.later (g.F.FileSystem.meter c.clean_groups.new.files) c.clean_groups.result c.clean_groups.ensures.cause;
     }

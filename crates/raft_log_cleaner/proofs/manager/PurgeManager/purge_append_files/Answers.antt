@@ -2,6 +2,7 @@
 use Rattle.std.proofs.Common.{◌≡◌, ℕ, ◌+◌, ap, sym, ◌∙◌}
 use Rattle.std.specs.Prelude.{Result, Ok, Err, IfOk}
 use Rattle.raft_log_pipe.specs.Pipe.{first_of}
+use Rattle.raft_log_cleaner.proofs.Caused.{going_cause}
 use Rattle.raft_log_cleaner.proofs.Going.{when_err, when_ok}
 use Rattle.raft_log_cleaner.proofs.Gone.{counted, files_gone, none_from, rest_leaves}
 use Rattle.raft_log_cleaner.proofs.Keeping.{pipe_as_before}
@@ -52,3 +53,6 @@ returns-clause-stands g c =
     let call = c.let_go.ensures.call in
     refused_to_go (g.F.FileSystem.disk c.args.files.now) (g.F.FileSystem.disk c.let_go.new.files) c.args.pipes.now c.let_go.new.pipes c.args.log.now call.0 c.let_go.result c.args.barrier (met.is_named c.args.files.now) (met.is_named c.let_go.new.files) call.1 call.2
     c.let_go.ensures.set.0 c.let_go.ensures.other
+
+pub returns-clause-cause : goal.returns-clause-cause
+returns-clause-cause g c = going_cause (g.F.FileSystem.meter c.args.files.now) (g.F.FileSystem.meter c.let_go.new.files) c.let_go.result c.let_go.ensures.cause

@@ -1,6 +1,7 @@
 -- A batch that is written, and a sync behind it.
 use Rattle.std.proofs.Common.{◌≡◌, ap, ◌∙◌}
 use Rattle.raft_log_disk.proofs.RefusalLemmas.{no_more_then}
+use Rattle.raft_log_cleaner.proofs.Caused.{cause_then}
 use Rattle.raft_log_cleaner.proofs.Going.{gone_more, gone_refused, gone_then, not_yet, when_ok}
 use Rattle.raft_log_cleaner.proofs.writer.Writer.flush.Goals as goal
 
@@ -23,3 +24,6 @@ returns-then-self-ge-MOST_UNSYNCED_BYTES-clause-emptied g c = when_ok c.sync.res
 
 pub returns-then-self-ge-MOST_UNSYNCED_BYTES-clause-later : goal.returns-then-self-ge-MOST_UNSYNCED_BYTES-clause-later
 returns-then-self-ge-MOST_UNSYNCED_BYTES-clause-later g c = no_more_then c.in_ok-len.ensures.later c.sync.ensures.later
+
+pub returns-then-self-ge-MOST_UNSYNCED_BYTES-clause-cause : goal.returns-then-self-ge-MOST_UNSYNCED_BYTES-clause-cause
+returns-then-self-ge-MOST_UNSYNCED_BYTES-clause-cause g c = cause_then c.in_ok-len.ensures.later (g.F.FileSystem.meter c.sync.new.files) c.sync.result c.sync.ensures.cause

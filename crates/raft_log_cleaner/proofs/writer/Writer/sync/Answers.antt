@@ -2,6 +2,7 @@
 use Rattle.std.proofs.Common.{[], sym, ap, ◌∙◌}
 use Rattle.raft_log_pipe.specs.Pipe.{first_of}
 use Rattle.raft_log_pipe.proofs.FirstLemmas.{same_first}
+use Rattle.raft_log_cleaner.proofs.Caused.{call_cause, refused}
 use Rattle.raft_log_cleaner.proofs.Going.{none_ok, when_err}
 use Rattle.raft_log_cleaner.proofs.Keeping.{pipe_as_before, pipe_left, pipe_on}
 use Rattle.raft_log_cleaner.proofs.Standing as standing
@@ -58,3 +59,9 @@ returns-clause-synced g c =
     let call = c.in_ok-sync.ensures.call in
     λ content s.
     standing.all_synced d e c.args.pipes.now c.sync.new.self c.args.log.now c.args.self.now.batch.items content s other call.pipe call.same (call.ok s.rewrites s.fresh s.rewrite)
+
+pub returns-in_err-sync-clause-cause : goal.returns-in_err-sync-clause-cause
+returns-in_err-sync-clause-cause g c =
+    let old = g.F.FileSystem.meter c.args.files.now in
+    let new = g.F.FileSystem.meter c.sync.new.files in
+    refused old new c.from_residual.result c.in_err-sync.field-0.0 c.from_residual.ensures.1 (call_cause old new ⊥ ⊥ c.in_err-sync.field-0.0 c.in_err-sync.ensures.cause)

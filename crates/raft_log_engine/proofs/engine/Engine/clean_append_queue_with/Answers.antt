@@ -115,3 +115,9 @@ returns-clause-stopped g c = λ stopped. elim c.match-clean_append_queue.branch 
   | in-Ok w ↦ rw w.result-is (w.in-Ok.ensures.stopped stopped)
   | in-Err w ↦ rw w.result-is (w.in-Err.ensures.stopped stopped)
 ]
+
+pub returns-clause-cause : goal.returns-clause-cause
+returns-clause-cause g c = elim c.match-clean_append_queue.branch [
+  | in-Ok w ↦ rw w.result-is tt
+  | in-Err w ↦ rw w.result-is w.in-Err.ensures.cause
+]

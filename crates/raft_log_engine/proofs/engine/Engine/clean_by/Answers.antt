@@ -10,6 +10,7 @@ use Rattle.raft_log_blocks.specs.Held.{seen_on}
 use Rattle.raft_log_engine.specs.Reopened.{OpensAs, directories_of_pipes}
 use Rattle.raft_log_engine.proofs.Clauses.{kept_by, parts}
 use Rattle.raft_log_traces.specs.GroupTraces.{traces_in}
+use Rattle.raft_log_cleaner.proofs.Caused.{call_cause, cause_behind}
 use Rattle.raft_log_engine.proofs.Barred.{barred}
 use Rattle.raft_log_engine.proofs.Cleaned.{both_stand, can_clean, cleaned_holds, cleaned_kept, cleaned_left, cleaned_seen, cleaned_written, gone_since, large_still, only_new_since, set_then, standing_in_tail, standing_opens}
 use Rattle.raft_log_engine.proofs.Reopened.{kept_opens, synced_stands}
@@ -394,3 +395,19 @@ returns-then-self-clause-goes_on_in_tail g c = rw (← c.self.view_is) (λ alone
 
 pub returns-then-self-clause-later : goal.returns-then-self-clause-later
 returns-then-self-clause-later g c = rw (← c.self.view_is) (no_more_same _ _)
+
+-- ---- why it was refused
+
+pub returns-then-self-clause-cause : goal.returns-then-self-clause-cause
+returns-then-self-clause-cause g c = rw (← c.self.view_is) c.if-self.true
+
+pub returns-then-not-may_clean-clause-cause : goal.returns-then-not-may_clean-clause-cause
+returns-then-not-may_clean-clause-cause g c =
+    rw (← c.self.view_is) (barred (parts c.self.inside.files c.self.inside.pipes c.self.inside.traced.tables c.self.inside.is_stopped c.self.inside.wrote_unsynced c.self.inside.blocks.reads c.self.inside.traced c.self.inside.manager.purge_threshold) c.self.inside.traced refl refl c.args.extent
+    (λ may. false≢true (sym c.if-not-may_clean.true ∙ c.may_clean.ensures.1 may)))
+
+pub returns-in-Err-clause-cause : goal.returns-in-Err-clause-cause
+returns-in-Err-clause-cause g c = rw (← c.self.view_is) (call_cause (g.F.FileSystem.meter c.self.inside.files) (g.F.FileSystem.meter c.sync_unsynced.new.files) ⊥ ⊥ c.in-Err.error c.in-Err.ensures.cause)
+
+pub returns-in-Err-clean-clause-cause : goal.returns-in-Err-clean-clause-cause
+returns-in-Err-clean-clause-cause g c = rw (← c.self.view_is) (cause_behind c.in_default.ensures.later (g.F.FileSystem.meter c.clean.new.files) c.in-Err-clean.error c.in-Err-clean.ensures.cause)

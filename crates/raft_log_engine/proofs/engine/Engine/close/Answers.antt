@@ -1,7 +1,7 @@
 -- What a close leaves, refused or not.
 use Rattle.std.proofs.Common.{[], ◌++◌, sym, ◌∙◌}
 use Rattle.std.proofs.lemmas.Bool.{false≢true}
-use Rattle.raft_log_disk.proofs.RefusalLemmas.{no_more_then}
+use Rattle.raft_log_disk.proofs.RefusalLemmas.{no_more_same, no_more_then}
 use Rattle.raft_log_engine.specs.Left.{answers_on}
 use Rattle.raft_log_engine.proofs.Clauses.{kept_by, parts}
 use Rattle.raft_log_engine.proofs.Reopened.{all_closed, both_closed, closed_opens, first_closed}
@@ -170,3 +170,6 @@ returns-clause-opens_in_tail g c =
     rw (← c.self.view_is) (λ going alone.
     both_in_tail c.self.inside.pipes c.close.new.self d e c.close.result c.close.ensures.call c.close.ensures.other alone held.rewrites held.synced held.unsynced held.held.rewrite held.held.append
     c.close-2.new.self f c.close-2.result c.close-2.ensures.call c.close-2.ensures.other (met.is_named c.close-2.new.files))
+
+pub returns-then-self-clause-later : goal.returns-then-self-clause-later
+returns-then-self-clause-later g c = rw (← c.self.view_is) (no_more_same (g.F.FileSystem.is_bounded c.self.inside.files) (g.F.FileSystem.meter c.self.inside.files))

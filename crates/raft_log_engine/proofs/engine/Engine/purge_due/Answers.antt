@@ -1,11 +1,15 @@
 -- A cleaning, or none where nothing is due.
-use Rattle.std.proofs.Common.{Err, ⊎_elim, ap, refl, subst, sym, ◌∙◌}
+use Rattle.std.proofs.Common.{◌≡◌, Err, ⊎_elim, true, ap, refl, subst, sym, ◌∙◌}
 use Rattle.std.specs.List.Sorted.{IsStrictlySortedBy}
 use Rattle.std.specs.Ordering.{nat_cmp}
 use Rattle.raft_log_cleaner.proofs.Calls.{barrier_same}
+use Rattle.raft_log_disk.proofs.RefusalLemmas.{no_more_same}
 use Rattle.raft_log_engine.specs.declared.fault.EngineFault.{EngineFault}
 use Rattle.raft_log_engine.specs.contracts.fault.EngineFault.{the_type}
 use denote.Enum.Declared.{tag_of}
+use Rattle.raft_log_engine.proofs.Caused.{unmarked_cause}
+use Rattle.raft_log_engine.specs.Barred.{IsBarred}
+use Rattle.raft_log_cleaning.specs.declared.cleaning.Extent.TheVariants.{Expired}
 use Rattle.raft_log_engine.proofs.Clauses.{kept_by, parts}
 use Rattle.raft_log_engine.proofs.Cleaned.{told_places}
 use Rattle.raft_log_engine.proofs.Reopened.{kept_opens}
@@ -81,6 +85,19 @@ returns-in-Err-clause-expired g c = λ unmarked large. tt
 -- the fault is another one than that of the arm before
 pub returns-in-Err-clause-stops : goal.returns-in-Err-clause-stops
 returns-in-Err-clause-stops g c = ⊎_elim (λ same. absurd (c.in-Err.in-Err-own'.refused-1.1 (ap (tag_of the_type) same))) (λ stopped. stopped) c.in-Err.ensures.stops
+
+-- ---- why it was refused
+
+pub returns-in-Err-clause-cause : goal.returns-in-Err-clause-cause
+returns-in-Err-clause-cause g c =
+    unmarked_cause (c.args.self.now.is_stopped ≡ true) (IsBarred (Expired c.free_of-free.result) c.args.self.now) (g.F.FileSystem.meter c.args.self.now.files) (g.F.FileSystem.meter c.clean_by.new.self.files) c.in-Err.fault
+    (λ same. absurd (c.in-Err.in-Err-own'.refused-1.1 (ap (tag_of the_type) same))) c.in-Err.ensures.cause
+
+pub returns-in-Err-Marked-clause-cause : goal.returns-in-Err-Marked-clause-cause
+returns-in-Err-Marked-clause-cause g c = tt
+
+pub returns-in-Ok-clean_by-clause-cause : goal.returns-in-Ok-clean_by-clause-cause
+returns-in-Ok-clean_by-clause-cause g c = tt
 
 -- ---- as the cleaning left it
 
@@ -210,3 +227,6 @@ pub returns-in-Err-Marked-clause-few : goal.returns-in-Err-Marked-clause-few
 returns-in-Err-Marked-clause-few g c =
     let same = c.clean_by.ensures.marked (c.in-Err-Marked.is ∙ ap (λ (fault : EngineFault). Err fault) c.in-Err-Marked.field-0-is) in
     λ going appends rewrites. (c.new-none.ensures.items, same)
+
+pub returns-in_default-clause-later : goal.returns-in_default-clause-later
+returns-in_default-clause-later g c = rw (← c.self.view_is) (no_more_same (g.F.FileSystem.is_bounded c.self.inside.files) (g.F.FileSystem.meter c.self.inside.files))

@@ -105,3 +105,9 @@ returns-clause-few g c = λ going appends rewrites. elim c.match-purge_due.branc
   | in-Ok w ↦ let few = w.in-Ok.ensures.few going appends rewrites in (rw w.result-is few.0, few.1)
   | in-Err w ↦ let few = w.in-Err.ensures.few going appends rewrites in (rw w.result-is few.0, few.1)
 ]
+
+pub returns-clause-cause : goal.returns-clause-cause
+returns-clause-cause g c = elim c.match-purge_due.branch [
+  | in-Ok w ↦ rw w.result-is tt
+  | in-Err w ↦ rw w.result-is w.in-Err.ensures.cause
+]

@@ -261,3 +261,6 @@ returns-clause-tail_still g c =
     held_in_tail (g.F.FileSystem.disk c.sync.new.files) c.sync.new.self w.rewrites (w.synced ++ w.unsynced) [] (met.is_named c.sync.new.files)
     (synced_stands c.self.inside.pipes c.sync.new.self (g.F.FileSystem.disk c.self.inside.files) (g.F.FileSystem.disk c.sync.new.files) c.in_default.ensures.call.same c.in_default.ensures.call.paths c.in_default.ensures.call.names c.in_default.ensures.other alone)
     (c.in_default.ensures.other.holds w.rewrites [] w.rewrite) (c.in_default.ensures.call.ok w.synced w.unsynced w.append))
+
+pub returns-clause-spends : goal.returns-clause-spends
+returns-clause-spends g c = rw (← c.self.view_is) c.in_default.ensures.spends

@@ -4,8 +4,9 @@ use Rattle.raft_log_disk.specs.Disk.{Disk}
 use Rattle.raft_log_disk.specs.MemorySystem.{disk_in}
 use Rattle.raft_log_engine.specs.Log.{main_directory}
 use Rattle.raft_log_engine.proofs.Fresh.{found_nothing}
+use Rattle.raft_log_files.specs.declared.recovery.RecoveryMode.TheVariants.{TolerateTailCorruption}
 use Rattle.raft_log_engine.proofs.memory.LogFiles.new.Goals as goal
 
 pub returns-clause-none : goal.returns-clause-none
 returns-clause-none c = λ content found.
-    found_nothing (main_directory c.args.settings) c.args.settings.recovery_mode (disk_in c.new.result) content (ap (λ (d : Disk). d.names) c.new.ensures.disk) found
+    found_nothing (main_directory c.args.settings) TolerateTailCorruption (disk_in c.new.result) content (ap (λ (d : Disk). d.names) c.new.ensures.disk) found

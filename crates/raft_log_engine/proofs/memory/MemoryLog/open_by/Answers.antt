@@ -24,6 +24,7 @@ use Rattle.raft_log_engine.specs.Unopened.{IsOpeningFault}
 use Rattle.raft_log_engine.proofs.Unopened.{free_fault}
 use Rattle.raft_log_disk.proofs.RefusalLemmas.{no_more_same}
 use Rattle.raft_log_recovery.proofs.DirectoryLemmas.{makes_none}
+use Rattle.raft_log_files.specs.declared.recovery.RecoveryMode.TheVariants.{TolerateTailCorruption}
 use Rattle.raft_log_engine.proofs.memory.MemoryLog.open_by.Goals as goal
 
 pub invariant_of-result : goal.invariant_of-result
@@ -87,12 +88,12 @@ returns-in-Err-clause-cause g c =
     let free = is_bounded_in c.args.files.files in
     let a = meter_in c.args.files.files in
     let b = meter_in c.in-Err.field-0.files in
-    subst (λ (o : Option OtherFault). IsOpeningFault o c.args.files.settings.recovery_mode (main_directory c.args.files.settings) d left free a b c.in-Err.field-0.fault) c.in-Ok.ensures.fault
+    subst (λ (o : Option OtherFault). IsOpeningFault o TolerateTailCorruption (main_directory c.args.files.settings) d left free a b c.in-Err.field-0.fault) c.in-Ok.ensures.fault
     (along (λ m l. IsOpeningFault (settings_fault (settings_of c.in-Ok.config)) m l d left free a b c.in-Err.field-0.fault) c.in-Ok.ensures.mode c.in-Ok.ensures.directories c.in-Err.ensures.cause)
 
 pub returns-in-Err-clause-taken : goal.returns-in-Err-clause-taken
 returns-in-Err-clause-taken g c = λ free.
-    free_fault c.args.files.settings.recovery_mode (main_directory c.args.files.settings) (disk_in c.args.files.files) (disk_in c.in-Err.field-0.files) (is_bounded_in c.args.files.files) (meter_in c.args.files.files)
+    free_fault TolerateTailCorruption (main_directory c.args.files.settings) (disk_in c.args.files.files) (disk_in c.in-Err.field-0.files) (is_bounded_in c.args.files.files) (meter_in c.args.files.files)
     (meter_in c.in-Err.field-0.files) (settings_fault (settings_of c.args.files.settings)) free c.in-Err.field-0.fault (returns-in-Err-clause-cause g c)
 
 -- ---- as the engine was opened

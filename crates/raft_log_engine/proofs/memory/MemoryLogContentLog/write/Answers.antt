@@ -1,7 +1,8 @@
 -- A write keeps what the log says of its files; a refused one stops it.
-use Rattle.std.proofs.Common.{◌∙◌, refl, sym}
+use Rattle.std.proofs.Common.{◌∙◌, inl, refl, sym}
 use Rattle.std.proofs.lemmas.Bool.{false≢true}
-use Rattle.raft_log_disk.specs.MemorySystem.{disk_in}
+use Rattle.raft_log_disk.specs.MemorySystem.{disk_in, meter_in}
+use Rattle.raft_log_engine.proofs.Fitting.{fit_write}
 use Rattle.raft_log_engine.proofs.Reopened.{same_directories}
 use Rattle.raft_log_engine.proofs.Logs.{is_refused, is_written, refused_others, written_in_main, written_others}
 use Rattle.raft_log_engine.proofs.memory.MemoryLogContentLog.write.Goals as goal
@@ -47,3 +48,12 @@ pub returns-in-Err-clause-others : goal.returns-in-Err-clause-others
 returns-in-Err-clause-others c =
     rw (← c.self.view_is) (refused_others disk_in c.self.inside.settings c.self.inside.engine c.write.new.self c.args.batch.now.items c.self.invariant.directories c.in-Err.ensures.paths c.self.inside.has_failed c.if-self.false
     (c.in-Err.ensures.opens_either (c.self.invariant.sound c.if-self.false) (c.self.invariant.alone c.if-self.false)))
+
+pub returns-in-Ok-clause-met : goal.returns-in-Ok-clause-met
+returns-in-Ok-clause-met c =
+    let e = c.in-Ok.ensures in
+    rw (← c.self.view_is) (record { later = e.later; sound = λ none going. going; cause = tt; stores = λ none. inl (e.spends refl) })
+
+pub returns-in-Err-clause-fits : goal.returns-in-Err-clause-fits
+returns-in-Err-clause-fits c =
+    rw (← c.self.view_is) (λ on plain takes. fit_write disk_in c.self.inside.engine (meter_in c.self.inside.engine.files) (meter_in c.write.new.self.files) c.args.batch.now.items c.in-Err.fault c.in-Err.ensures.cause plain takes)

@@ -45,6 +45,9 @@ pub returns-clause-others : goal.returns-clause-others
 returns-clause-others g c =
     others_on c.args.self.now.queue c.finish.new.self.queue (g.F.FileSystem.disk c.args.files.now) (g.F.FileSystem.disk c.finish.new.files) (g.F.FileSystem.disk c.go_on.new.files) (c.in_ok-finish.ensures.same.2) (c.in_ok-finish.ensures.others) (c.in_ok-go_on.ensures.others)
 
+pub returns-clause-later : goal.returns-clause-later
+returns-clause-later g c = no_more_then c.in_ok-finish.ensures.later c.in_ok-go_on.ensures.later
+
 pub returns-in_err-go_on-clause-later : goal.returns-in_err-go_on-clause-later
 returns-in_err-go_on-clause-later g c = no_more_then c.in_ok-finish.ensures.later c.in_err-go_on.ensures.later
 

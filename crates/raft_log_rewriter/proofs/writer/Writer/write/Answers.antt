@@ -1,6 +1,7 @@
 -- A record, and a sync behind it.
 use Rattle.raft_log_disk.proofs.RefusalLemmas.{no_more_then}
 use Rattle.raft_log_cleaner.proofs.Going.{when_ok}
+use Rattle.raft_log_cleaner.proofs.Caused.{cause_then}
 use Rattle.raft_log_rewriter.proofs.Steps.{record_refused, record_synced}
 use Rattle.raft_log_rewriter.proofs.writer.Writer.write.Goals as goal
 
@@ -20,3 +21,6 @@ returns-clause-emptied g c = when_ok c.sync_rewrites.result c.in_ok-len.ensures.
 
 pub returns-clause-later : goal.returns-clause-later
 returns-clause-later g c = no_more_then c.in_ok-len.ensures.later c.sync_rewrites.ensures.later
+
+pub returns-clause-cause : goal.returns-clause-cause
+returns-clause-cause g c = cause_then c.in_ok-len.ensures.later (g.F.FileSystem.meter c.sync_rewrites.new.files) c.sync_rewrites.result c.sync_rewrites.ensures.cause

@@ -1,10 +1,12 @@
 -- The last record of an atomic group.
 use Rattle.std.proofs.Common.{◌≡◌, ◌∷◌, [], Option, None, ℕ, ap, subst, ◌∙◌}
-use Rattle.std.specs.Prelude.{Ok}
+use Rattle.std.specs.Prelude.{Err, Ok}
 use Rattle.raft_log_records.specs.Item.Change.{mark}
 use Rattle.raft_log_records.specs.declared.item.AtomicGroupStatus.TheVariants.{End}
+use Rattle.raft_log_purge.proofs.CausedLemmas.{item_cause}
 use Rattle.raft_log_purge.proofs.StepLemmas.{logged_item}
 use Rattle.raft_log_cleaner.proofs.Going.{done, failed}
+use Rattle.raft_log_cleaner.proofs.Caused.{batch_cause, told_as}
 use Rattle.raft_log_rewriter.specs.Parts.{HasId}
 use Rattle.raft_log_rewriter.specs.Parts.Stage.{between}
 use Rattle.raft_log_rewriter.specs.Rewriting.{at}
@@ -40,3 +42,8 @@ returns-clause-goes_on g c =
     (record { group = 0; change = mark c.args.id End } ∷ []) (done tt)
     (λ next groups content s. ended_follows content (traces_in c.args.log.now.traces) s.ws s.open_group w.batch.items s.part items c.args.id s.stored s.stands.anew (subst (λ (o : Option ℕ). HasId s.open_group o) c.requires.group s.id) s.is_part is s.parts)
     is c.in_ok-write.ensures.writes c.in_ok-write.ensures.emptied c.in_ok-write.ensures.traces
+
+pub returns-in-Err-clause-cause : goal.returns-in-Err-clause-cause
+returns-in-Err-clause-cause g c =
+    let meter = g.F.FileSystem.meter c.args.files.now in
+    told_as meter meter c.of_record.result _ c.of_record.ensures (batch_cause meter meter c.in-Err.error (item_cause c.args.self.now.batch (record { group = 0; change = mark c.with_id.result.id End }) c.end.new.batch (Err c.in-Err.error) c.in-Err.ensures))

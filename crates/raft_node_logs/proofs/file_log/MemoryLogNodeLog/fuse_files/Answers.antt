@@ -3,4 +3,9 @@ use Rattle.raft_node_logs.proofs.Files.{finds_same}
 use Rattle.raft_node_logs.proofs.file_log.MemoryLogNodeLog.fuse_files.Goals as goal
 
 pub returns : goal.returns
-returns c = record { same = finds_same c.args.files.now c.fuse.new.self c.fuse.ensures.disk c.fuse.ensures.settings }
+returns c =
+    let e = c.fuse.ensures in
+    record {
+      fused = record { settings = e.settings; files = e.fused };
+      same = finds_same c.args.files.now c.fuse.new.self e.fused.same e.settings;
+    }

@@ -14,7 +14,7 @@ returns-in-Ok-clause-does g c =
     opened_or_not k c.args.self.now.up _ _ none
     (reopened_so k c.args.self.now c.opened.new.self o.node o.outcomes.items c.opened.result
     (subst (λ (f : k.Files). IsOpened k f c.args.self.now.id o.node o.outcomes.items) c.replace-files.ensures.value c.in-Ok.ensures.ok)
-    none e.id e.ok e.up e.err e.down e.files)
+    none e.id e.ok e.up e.err e.down e.files e.hands_back)
 
 pub returns-in-Err-clause-does : goal.returns-in-Err-clause-does
 returns-in-Err-clause-does g c =
@@ -26,6 +26,6 @@ returns-in-Err-clause-does g c =
       record { id = refl; down = none },
       ⊎_elim
           (λ refused. inl (subst (λ (f : k.Files). IsRefusedOpening k.found k.unopened f u.stop u.files) same refused))
-          (λ left. inr (inl (subst (λ (f : k.Files). IsLeftOpening k.rules k.found k.cause f c.args.self.now.id u.stop u.files) same left)))
+          (λ left. inr (inl (subst (λ (f : k.Files). IsLeftOpening k f c.args.self.now.id u.stop u.files) same left)))
           c.in-Err.ensures.err,
     )

@@ -39,3 +39,9 @@ returns-in_err-batch-clause-err g c = λ sound.
 
 pub returns-in_err-batch-clause-others : goal.returns-in_err-batch-clause-others
 returns-in_err-batch-clause-others g c = λ other parts ne shown. c.in_ok-bounds.ensures.kept other parts shown
+
+pub returns-clause-fits : goal.returns-clause-fits
+returns-clause-fits g c = λ s sound shown.
+    let first = c.in_ok-bounds.ensures.first s sound shown in
+    let end = c.in_ok-bounds.ensures.end s sound shown in
+    c.store.ensures.fits c.args.group (end_changes c.cut_end.result) s (after_storing (CutFrom c.args.place) s) c.in_ok-batch.ensures.items (carries_cut g.M.StateMachine.rules s c.args.place c.cut_end.result (cut_place g.M.StateMachine.rules s c.args.place c.in_ok-bounds.bounds.first c.in_ok-bounds.bounds.end c.cut_end.result first end c.cut_end.ensures) c.in_ok-batch.ensures.fits) (c.in_ok-bounds.ensures.well sound) (c.in_ok-bounds.ensures.kept c.args.group (s ∷ []) shown)

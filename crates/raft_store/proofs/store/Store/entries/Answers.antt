@@ -24,7 +24,7 @@ returns-in_err-entries_of-clause-read g c = λ s sound shown low high.
     let held = only_one rules content s (shown.answered sound) in
     let count = c.args.places.end - c.args.places.start in
     let skipped = c.args.places.start - first_place s in
-    failed_for_memory c.from_residual-in_err-entries_of.result (λ found. found.items ≡ take count (drop skipped s.log)) c.in_err-entries_of.field-0.0 c.from_residual-in_err-entries_of.ensures.1
+    failed_for_memory g.L.ContentLog.is_misuse c.from_residual-in_err-entries_of.result (λ found. found.items ≡ take count (drop skipped s.log)) c.in_err-entries_of.field-0.0 c.from_residual-in_err-entries_of.ensures.1
     (c.in_err-entries_of.ensures.read (take count (drop skipped s.log)) (fits_at rules content s held skipped count)
     (ap (λ (all : List (Vec ℕ Global)). payloads all) c.deref.ensures.value
     ∙ found_at rules content s held c.args.places.start c.args.places.end low high (payloads c.in_ok-bytes.bytes.items) (c.in_ok-bytes.ensures.entries sound)))

@@ -25,3 +25,7 @@ returns-in_err-batch-clause-err g c = λ sound.
 
 pub returns-in_err-batch-clause-others : goal.returns-in_err-batch-clause-others
 returns-in_err-batch-clause-others g c = λ other parts ne shown. shown
+
+pub returns-clause-fits : goal.returns-clause-fits
+returns-clause-fits g c = λ s sound shown.
+    c.store.ensures.fits c.args.group make_changes s (after_storing MakeGroup s) c.in_ok-batch.ensures (carries_make g.M.StateMachine.rules s) sound shown

@@ -4,7 +4,7 @@ use Rattle.raft_group_step.specs.StoredGroup.{StoredGroup, PutEntries, after_sto
 use Rattle.raft_store.specs.Batches.{ShowsIn, entry_changes}
 use Rattle.raft_store.proofs.Carrying.{carries_entries}
 use Rattle.raft_store.proofs.Recalling.{recalls_put}
-use Rattle.raft_store.proofs.Storing.{on_err_any, only_one}
+use Rattle.raft_store.proofs.Storing.{on_err_any, only_one, refused_so}
 use Rattle.raft_store.proofs.store.Store.put_entries.Goals as goal
 
 pub returns-clause-ok : goal.returns-clause-ok
@@ -47,3 +47,15 @@ returns-clause-others g c = λ other parts ne shown.
       left = after.left;
       recalled = λ is same. absurd (ne (sym same ∙ c.in_ok-batch.ensures.group));
     }
+
+pub returns-in_err-store-clause-fits : goal.returns-in_err-store-clause-fits
+returns-in_err-store-clause-fits g c = λ s sound shown.
+    let rules = g.M.StateMachine.rules in
+    let entries = c.args.entries.now in
+    let place = c.args.place in
+    let batch = c.in_ok-batch.ensures in
+    let low : first_place s ≤ place = subst (λ (n : ℕ). n ≤ place) (c.in_ok-bounds.ensures.first s sound shown) c.in_ok-check_place.ensures.low in
+    let high : place ≤ end_place s = subst (λ (n : ℕ). place ≤ n) (c.in_ok-bounds.ensures.end s sound shown) c.in_ok-check_place.ensures.high in
+    refused_so g.L.ContentLog.is_misuse c.from_residual-in_err-store.result c.in_err-store.field-0.0 c.from_residual-in_err-store.ensures.1
+    (c.in_err-store.ensures.fits c.args.group (entry_changes place entries (place + length entries)) s (after_storing (PutEntries place entries) s) batch.items
+    (carries_entries rules s place low high entries (place + length entries) batch.fits refl batch.places) (c.in_ok-bounds.ensures.well sound) (c.in_ok-bounds.ensures.kept c.args.group (s ∷ []) shown))

@@ -47,3 +47,9 @@ returns-in_err-batch-clause-err g c = λ sound.
 
 pub returns-in_err-batch-clause-others : goal.returns-in_err-batch-clause-others
 returns-in_err-batch-clause-others g c = λ other parts ne shown. c.in_ok-bounds.ensures.kept other parts shown
+
+pub returns-clause-fits : goal.returns-clause-fits
+returns-clause-fits g c = λ s sound shown.
+    let first = c.in_ok-bounds.ensures.first s sound shown in
+    let end = c.in_ok-bounds.ensures.end s sound shown in
+    c.store.ensures.fits c.args.group c.in_ok-batch.ensures.items.0 s (after_storing (RemoveUpTo c.args.id) s) c.in_ok-batch.ensures.items.1 (carries_removal g.M.StateMachine.rules s c.args.id c.in_ok-batch.ensures.fits (subst (λ (n : ℕ). n ≤ c.args.id.index + 1) first c.in_ok-check_purge.ensures) c.in_ok-batch.ensures.items.0 c.in_ok-bounds.bounds.end end c.in_ok-batch.ensures.items.2) (c.in_ok-bounds.ensures.well sound) (c.in_ok-bounds.ensures.kept c.args.group (s ∷ []) shown)

@@ -25,3 +25,7 @@ returns-in_err-batch-clause-err g c = λ y sound stands.
 
 pub returns-in_err-batch-clause-others : goal.returns-in_err-batch-clause-others
 returns-in_err-batch-clause-others g c = λ other parts ne shown. shown
+
+pub returns-clause-fits : goal.returns-clause-fits
+returns-clause-fits g c = λ s y sound stands shown.
+    c.store.ensures.fits c.args.group (snapshot_changes c.args.snapshot.now) s (after_storing (SetSnapshot y) s) c.in_ok-batch.ensures.items (carries_snapshot g.M.StateMachine.rules s c.args.snapshot.now y c.in_ok-batch.ensures.fits stands) sound shown

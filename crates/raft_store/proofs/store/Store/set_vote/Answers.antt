@@ -25,3 +25,7 @@ returns-in_err-batch-clause-err g c = λ sound.
 
 pub returns-in_err-batch-clause-others : goal.returns-in_err-batch-clause-others
 returns-in_err-batch-clause-others g c = λ other parts ne shown. shown
+
+pub returns-clause-fits : goal.returns-clause-fits
+returns-clause-fits g c = λ s sound shown.
+    c.store.ensures.fits c.args.group (vote_changes c.args.vote) s (after_storing (SetVote c.args.vote) s) c.in_ok-batch.ensures.items (carries_vote g.M.StateMachine.rules s c.args.vote c.in_ok-batch.ensures.fits) sound shown
