@@ -1,0 +1,10 @@
+pub mod Reading
+pub mod Maps
+pub mod Changes
+pub mod Restored
+pub mod Written
+pub mod WithinMaps
+pub mod KeyLaws
+pub mod RowLemmas
+pub mod FullMap
+pub mod Sizes

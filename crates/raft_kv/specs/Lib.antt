@@ -1,0 +1,7 @@
+pub mod Fields
+pub mod Command
+pub mod Map
+pub mod Pairs
+pub mod Machine
+pub mod Restoring
+pub mod Rows
