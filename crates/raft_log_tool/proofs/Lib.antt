@@ -1,0 +1,4 @@
+pub mod FoundLemmas
+pub mod LineLemmas
+pub mod ReadLemmas
+pub mod SizeLemmas

@@ -1,0 +1,6 @@
+pub mod Command
+pub mod Content
+pub mod Lines
+pub mod Sizes
+pub mod Span
+pub mod Status
