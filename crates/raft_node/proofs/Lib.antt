@@ -9,4 +9,3 @@ pub mod Tokens
 pub mod Openings
 pub mod OpeningSteps
 pub mod Feeds
-pub mod Adding

@@ -6,7 +6,3 @@ pub mod Recalling
 pub mod Spelled
 pub mod Storing
 pub mod Named
-pub mod Blank
-pub mod Calls
-pub mod Lengths
-pub mod Records
