@@ -9,7 +9,7 @@ ghost use Rattle.raft_group_step.specs.GroupStep.{group_step};
 ghost use Rattle.raft_group_step.specs.Refusal.{refusal_of};
 ghost use Rattle.raft_group_step.specs.StepResult.{tokens_of as waiting_tokens};
 ghost use Rattle.std.specs.Result.{result_err};
-ghost use Rattle.raft_group_storage.specs.Keeping.{KeepsAll};
+ghost use Rattle.raft_group_storage.specs.Keeping.{FailsAnyhow, KeepsAll};
 ghost use Rattle.raft_member.specs.Member.{IsIdle, IsUp};
 ghost use Rattle.raft_machines.specs.Fold.{fold_of};
 ghost use Rattle.raft_machines.specs.Telling.{AreToldAs, untold_of};
@@ -68,6 +68,7 @@ impl<M: StateMachine> Applier<M> {
             → IsUp (S.is_well storage.old) (S.shows storage.old group) member.now (group_step member.now.id (state_of st) Open).state
             → HasWholeSnapshot (group_step member.now.id (state_of st) Open).state
             → IfOk result (λ a. IsCaughtUp M.rules (M.state a.machine) a.applied (group_step member.now.id (state_of st) Open).state) }
+        ensures failed { (s : Stored) → S.is_well storage.old → S.shows storage.old group (s ∷ []) → OnErr result (FailsAnyhow (S.fails storage.new)) }
         ensures kept { KeepsAll (S.shows storage.old) (S.shows storage.new) }
         ensures met { S.meets storage.old storage.new (result_err result) }
     {
@@ -169,6 +170,7 @@ impl<M: StateMachine> Applier<M> {
             → IsCaughtUp M.rules (M.state self.old.machine) self.old.applied (with_brought s e)
             → IfOk result (HasGone M.rules (group_step member.now.id s e)) }
         ensures err { OnErr result (self.new.applied.waiting ≡ self.old.applied.waiting) }
+        ensures failed { (s : Stored) → S.is_well storage.old → S.shows storage.old group (s ∷ []) → OnErr result (FailsAnyhow (S.fails storage.new)) }
         ensures kept { KeepsAll (S.shows storage.old) (S.shows storage.new) }
         ensures met { S.meets storage.old storage.new (result_err result) }
     {

@@ -1,11 +1,11 @@
 //! A machine goes on to what is committed.
-ghost use Rattle.std.specs.Prelude.{◌≡◌, ◌+◌, ◌<◌, ◌^◌, [], ◌∷◌, List, IfOk, IfSome, OnOk, drop, length};
+ghost use Rattle.std.specs.Prelude.{◌≡◌, ◌+◌, ◌<◌, ◌^◌, [], ◌∷◌, List, IfOk, IfSome, OnErr, OnOk, drop, length};
 ghost use Rattle.raft_values.specs.LogId.{next_place};
 ghost use Rattle.raft_group_step.specs.Values.{Entry};
 ghost use Rattle.raft_group_step.specs.StoredGroup.{StoredGroup as Stored, snapshot_last};
 ghost use Rattle.raft_group_step.specs.GroupState.{GroupState};
 ghost use Rattle.std.specs.Result.{result_err};
-ghost use Rattle.raft_group_storage.specs.Keeping.{KeepsAll, entries_of};
+ghost use Rattle.raft_group_storage.specs.Keeping.{FailsAnyhow, KeepsAll, entries_of};
 ghost use Rattle.raft_laws.specs.OneList.{applied_list};
 ghost use Rattle.raft_machines.specs.Fold.{fold_of};
 ghost use Rattle.raft_machines.specs.Telling.{AreToldAs, WaitFrom, untold_of};
@@ -49,6 +49,7 @@ pub(crate) fn restore<M: StateMachine, S: GroupStorage<Snapshot = SnapshotBytes>
         → IfOk result (λ now. HasRun M.rules (M.state machine.new) now (applied_list s)) }
     ensures goes { (s : GroupState) → S.is_well storage.old → S.shows storage.old group (s.stored ∷ []) → snapshot ≡ snapshot_last s.stored
         → IfOk result (λ now. now ≡ later_id last snapshot) }
+    ensures failed { (s : Stored) → S.is_well storage.old → S.shows storage.old group (s ∷ []) → OnErr result (FailsAnyhow (S.fails storage.new)) }
     ensures kept { KeepsAll (S.shows storage.old) (S.shows storage.new) }
     ensures met { S.meets storage.old storage.new (result_err result) }
 {
@@ -73,6 +74,7 @@ pub(crate) fn entries_after<S: GroupStorage>(
 ) -> Result<Entries<u64, BasicNode, Bytes>, S::Fault>
     ensures well { S.is_well storage.old → OnOk result (S.is_well storage.new) }
     ensures ok { (s : Stored) → S.is_well storage.old → S.shows storage.old group (s ∷ []) → IfOk result (λ entries. entries ≡ entries_of s last upto) }
+    ensures failed { (s : Stored) → S.is_well storage.old → S.shows storage.old group (s ∷ []) → OnErr result (FailsAnyhow (S.fails storage.new)) }
     ensures kept { KeepsAll (S.shows storage.old) (S.shows storage.new) }
     ensures met { S.meets storage.old storage.new (result_err result) }
 {

@@ -7,7 +7,7 @@ use Rattle.raft_messages.specs.declared.message.MessageBody.{MessageBody as Body
 use Rattle.raft_messages.specs.declared.message.MessageBody.TheVariants.{VoteRequest as AsksForVote, VoteReply as AnswersVote, AppendRequest as SendsEntries}
 use Rattle.raft_messages.specs.declared.message.MessageBody.TheVariants.{AppendReply as AnswersEntries, SnapshotRequest as SendsSnapshot, SnapshotReply as AnswersSnapshot}
 use Rattle.raft_messages.specs.declared.message.Message.{Message as Sent}
-use Rattle.raft_group_storage.specs.Keeping.{KeepsAll, StandsOrNone}
+use Rattle.raft_group_storage.specs.Keeping.{Fails, KeepsAll, StandsOrNone}
 use Rattle.raft_group_storage.specs.Plain.{IsOnly}
 use Rattle.raft_executor.specs.Said.{Says, SaysAll, SaysBody}
 use Rattle.raft_executor.specs.Stored.{FailsAmong, IsGiven, StoresAll}
@@ -33,9 +33,9 @@ pub all_stored : (old new : StoredGroup) (commands : List StoringCommand) → St
 all_stored old new commands stores = is_shown new (after_storing_all commands old) (stores old (shows_itself old))
 
 -- so many of them are stored
-pub some_stored : (old new : StoredGroup) (commands : List StoringCommand) → FailsAmong (IsOnly old) (IsOnly new) 0 commands
+pub some_stored : (old new : StoredGroup) (at : Fails) (commands : List StoringCommand) → FailsAmong (IsOnly old) (IsOnly new) at 0 commands
     → (number : ℕ) × (new ≡ after_storing_all (take number commands) old)
-some_stored old new commands fails =
+some_stored old new at commands fails =
     let left = fails old (shows_itself old) in
     elim left.1.1 [ inl e ↦ (left.0, e) | inr more ↦ (left.0 + 1, elim more [ inl e ↦ e | inr miss ↦ absurd miss ]) ]
 

@@ -1,12 +1,12 @@
 -- Commands that are stored one after the other.
 use Rattle.std.proofs.Common.{◌≡◌, ℕ, zero, suc, ◌+◌, ◌-◌, Bool, true, false, List, [], ◌∷◌, ◌++◌}
-use Rattle.std.proofs.Common.{length, take, arith, Option, Some, None, append_assoc, refl, sym, ap, subst, ◌∙◌}
+use Rattle.std.proofs.Common.{length, drop, take, arith, Option, Some, None, append_assoc, refl, sym, ap, subst, ◌∙◌}
 use Rattle.std.specs.Prelude.{◌||◌}
 use Rattle.std.proofs.lemmas.List.{append-nil, take_all}
 use Rattle.raft_group_step.specs.StoredGroup.{StoredGroup, StoringCommand, Snapshot, after_storing, after_storing_all}
 use Rattle.raft_engine.specs.Commands.{Command, storing_of, stored_by}
-use Rattle.raft_group_storage.specs.Keeping.{Shows}
-use Rattle.raft_executor.specs.Stored.{FailsAmong, FailsAtOne, IsGiven, MayStoreAll, StoresAll, first_of, has_snapshot, queue_has_snapshot, room_after}
+use Rattle.raft_group_storage.specs.Keeping.{Fails, FailsAnyhow, KeepsFails, Shows}
+use Rattle.raft_executor.specs.Stored.{FailsAmong, FailsAtOne, FailsFirst, IsGiven, MayStoreAll, StoresAll, first_of, has_snapshot, queue_has_snapshot, room_after}
 
 -- the first ones are stored, and then the others
 pub after_both : (a b : List StoringCommand) (s : StoredGroup) → after_storing_all (a ++ b) s ≡ after_storing_all b (after_storing_all a s)
@@ -25,6 +25,10 @@ take_both (suc n) (c ∷ cs) b =
 take_front : (done others : List StoringCommand) → take (length done) (done ++ others) ≡ done
 take_front [] others = refl
 take_front (c ∷ cs) others = ap (λ (l : List StoringCommand). c ∷ l) (take_front cs others)
+
+drop_front : (done others : List StoringCommand) → drop (length done) (done ++ others) ≡ others
+drop_front [] others = refl
+drop_front (c ∷ cs) others = drop_front cs others
 
 take_one_more : (done others : List StoringCommand) (c : StoringCommand) → take (length done + 1) (done ++ (c ∷ others)) ≡ done ++ (c ∷ [])
 take_one_more [] others c = refl
@@ -62,23 +66,37 @@ one_more first room rest a b old now new group h r next = record {
       (next (after_storing_all h.done s) (h.stored s shown));
 }
 
+-- where no command was refused, the first of these may have failed
+pub fails_first : (fails : Fails) (cs : List StoringCommand) (s : StoredGroup) → FailsAnyhow fails → FailsFirst fails cs s
+fails_first fails [] s anyhow = anyhow
+fails_first fails (c ∷ cs) s anyhow = anyhow c s
+
+-- what may have failed may still have
+pub fails_still : (old new : Fails) (cs : List StoringCommand) (s : StoredGroup) → KeepsFails old new → FailsFirst old cs s → FailsFirst new cs s
+fails_still old new [] s keeps h = λ c t. keeps c t (h c t)
+fails_still old new (c ∷ cs) s keeps h = keeps c s h
+
 -- where one command fails, those before it are stored
-fails_here : (first : List StoringCommand) (room : Option ℕ) (a b : List StoringCommand) (old now new : Shows) (group : ℕ)
-    → IsStoredSoFar first room (a ++ b) old now group → FailsAtOne now new group (first_of room a) → FailsAmong old new group first
-fails_here first room a b old now new group h fails = λ s shown.
+fails_here : (first : List StoringCommand) (room : Option ℕ) (a b : List StoringCommand) (old now new : Shows) (at : Fails) (group : ℕ)
+    → IsStoredSoFar first room (a ++ b) old now group → FailsAtOne now new at group (first_of room a) → FailsAmong old new at group first
+fails_here first room a b old now new at group h fails = λ s shown.
     let rest : List StoringCommand = first_of (room_after room (length a)) b in
-    let listed : first ≡ h.done ++ (fails.command ∷ rest) =
+    let next : List StoringCommand = fails.command ∷ rest in
+    let listed : first ≡ h.done ++ next =
     h.listed ∙ ap (λ (l : List StoringCommand). h.done ++ l) (first_of_both room a b ∙ ap (λ (l : List StoringCommand). l ++ rest) fails.is) in
-    let before : take (length h.done) first ≡ h.done = ap (λ (l : List StoringCommand). take (length h.done) l) listed ∙ take_front h.done (fails.command ∷ rest) in
+    let before : take (length h.done) first ≡ h.done = ap (λ (l : List StoringCommand). take (length h.done) l) listed ∙ take_front h.done next in
     let behind : take (length h.done + 1) first ≡ h.done ++ (fails.command ∷ []) =
     ap (λ (l : List StoringCommand). take (length h.done + 1) l) listed ∙ take_one_more h.done rest fails.command in
+    let left : drop (length h.done) first ≡ next = ap (λ (l : List StoringCommand). drop (length h.done) l) listed ∙ drop_front h.done next in
     let one : after_storing_all (take (length h.done) first) s ≡ after_storing_all h.done s = ap (λ (l : List StoringCommand). after_storing_all l s) before in
     let other : after_storing_all (take (length h.done + 1) first) s ≡ after_storing fails.command (after_storing_all h.done s) =
-    ap (λ (l : List StoringCommand). after_storing_all l s) behind ∙ after_both h.done (fails.command ∷ []) s in (
+    ap (λ (l : List StoringCommand). after_storing_all l s) behind ∙ after_both h.done (fails.command ∷ []) s in
+    let may = fails.may_store (after_storing_all h.done s) (h.stored s shown) in (
       length h.done,
       subst (λ (u : StoredGroup). new group (u ∷ after_storing_all (take (length h.done + 1) first) s ∷ [])) (sym one)
-          (subst (λ (u : StoredGroup). new group (after_storing_all h.done s ∷ u ∷ [])) (sym other)
-          (fails.may_store (after_storing_all h.done s) (h.stored s shown))),
+          (subst (λ (u : StoredGroup). new group (after_storing_all h.done s ∷ u ∷ [])) (sym other) may.0),
+      subst (λ (l : List StoringCommand). FailsFirst at l (after_storing_all (take (length h.done) first) s)) (sym left)
+          (subst (λ (u : StoredGroup). at fails.command u) (sym one) may.1),
     )
 
 module _ {X : Type 0} (stands : X → Snapshot → Type 0) where
@@ -111,11 +129,11 @@ one_is_stored {C} {R} x first room rest c left others old now new group e before
 
 -- one command fails
 pub one_fails : {C R : Type 0} (x : Snapshot) (first : List StoringCommand) (room : Option ℕ)
-    (c : Command C R) (left others : List (Command C R)) (old now new : Shows) (group : ℕ)
+    (c : Command C R) (left others : List (Command C R)) (old now new : Shows) (at : Fails) (group : ℕ)
     → left ≡ c ∷ others → IsStoredSoFar first room (stored_by x left) old now group
-    → FailsAtOne now new group (first_of room (storing_of x c)) → FailsAmong old new group first
-one_fails {C} {R} x first room c left others old now new group e before fails =
-    fails_here first room (storing_of x c) (stored_by x others) old now new group
+    → FailsAtOne now new at group (first_of room (storing_of x c)) → FailsAmong old new at group first
+one_fails {C} {R} x first room c left others old now new at group e before fails =
+    fails_here first room (storing_of x c) (stored_by x others) old now new at group
     (subst (λ (l : List (Command C R)). IsStoredSoFar first room (stored_by x l) old now group) e before) fails
 
 -- of nothing there is no first one
@@ -140,13 +158,13 @@ one_of_one (c ∷ []) e = (c, refl)
 one_of_one (c ∷ d ∷ cs) e = absurd (let no : suc (suc (length cs)) ≡ 1 = e in omega arith)
 
 -- it fails, and is stored or not
-pub fails_at_one : (a : List StoringCommand) (old new : Shows) (group : ℕ) → length a ≡ 1 → MayStoreAll old new group a → FailsAtOne old new group a
-fails_at_one a old new group e may =
+pub fails_at_one : (a : List StoringCommand) (old new : Shows) (at : Fails) (group : ℕ) → length a ≡ 1 → MayStoreAll old new at group a → FailsAtOne old new at group a
+fails_at_one a old new at group e may =
     let one = one_of_one a e in
     record {
       command = one.0;
       is = one.1;
-      may_store = λ s shown. subst (λ (l : List StoringCommand). new group (s ∷ after_storing_all l s ∷ [])) one.1 (may s shown);
+      may_store = λ s shown. subst (λ (l : List StoringCommand). new group (s ∷ after_storing_all l s ∷ []) × FailsFirst at l s) one.1 (may s shown);
     }
 
 -- where there is room for one, it is the first one

@@ -1,5 +1,5 @@
 -- Which commands store a snapshot, how many commands are stored, and what is left where a call fails.
-use Rattle.std.specs.Prelude.{ℕ, ◌+◌, ◌-◌, ◌≡◌, Bool, true, false, ◌||◌, List, [], ◌∷◌, take, Option, Some, None}
+use Rattle.std.specs.Prelude.{ℕ, ◌+◌, ◌-◌, ◌≡◌, Bool, true, false, ◌||◌, List, [], ◌∷◌, take, drop, Option, Some, None}
 use Rattle.raft_commands.specs.declared.command.Command.TheVariants.{BecomeLeader, QuitLeader, AppendInputEntries, ReplicateCommitted, Commit}
 use Rattle.raft_commands.specs.declared.command.Command.TheVariants.{Replicate, RebuildReplicationStreams, SaveVote, SendVote, PurgeLog}
 use Rattle.raft_commands.specs.declared.command.Command.TheVariants.{DeleteConflictLog, StateMachine, Respond}
@@ -7,7 +7,7 @@ use Rattle.raft_commands.specs.declared.sm.CommandPayload.{CommandPayload}
 use Rattle.raft_commands.specs.declared.sm.CommandPayload.TheVariants.{BuildSnapshot, GetSnapshot, BeginReceivingSnapshot, InstallFullSnapshot, Apply}
 use Rattle.raft_group_step.specs.StoredGroup.{Snapshot, StoredGroup, StoringCommand, after_storing_all}
 use Rattle.raft_engine.specs.Commands.{Command}
-use Rattle.raft_group_storage.specs.Keeping.{MayStore, Shows, StandsOrNone}
+use Rattle.raft_group_storage.specs.Keeping.{Fails, FailsAnyhow, MayStore, Shows, StandsOrNone}
 
 -- so many commands from the first on, or all of them
 abbrev pub first_of : Option ℕ → List StoringCommand → List StoringCommand
@@ -57,18 +57,29 @@ IsGiven stands is_stored given x = is_stored ≡ true → StandsOrNone stands gi
 abbrev pub StoresAll : Shows → Shows → ℕ → List StoringCommand → Type 0
 StoresAll old new group commands = (s : StoredGroup) → old group (s ∷ []) → new group (after_storing_all commands s ∷ [])
 
--- one that failed stored them or not
-abbrev pub MayStoreAll : Shows → Shows → ℕ → List StoringCommand → Type 0
-MayStoreAll old new group commands = (s : StoredGroup) → old group (s ∷ []) → new group (s ∷ after_storing_all commands s ∷ [])
+-- the first of these commands may have failed where this was stored; where none is left, whatever was asked for
+abbrev pub FailsFirst : Fails → List StoringCommand → StoredGroup → Type 0
+FailsFirst fails [] s = FailsAnyhow fails
+FailsFirst fails (c ∷ cs) s = fails c s
+
+-- the one may have failed that has so many before it, where those are stored
+abbrev pub FailsAt : Fails → ℕ → List StoringCommand → StoredGroup → Type 0
+FailsAt fails number commands s = FailsFirst fails (drop number commands) (after_storing_all (take number commands) s)
+
+-- one that failed stored them or not, and may have failed at the first
+abbrev pub MayStoreAll : Shows → Shows → Fails → ℕ → List StoringCommand → Type 0
+MayStoreAll old new fails group commands =
+    (s : StoredGroup) → old group (s ∷ []) → new group (s ∷ after_storing_all commands s ∷ []) × FailsFirst fails commands s
 
 -- they are one command, and a call that failed stored it or not
-pub record FailsAtOne (old new : Shows) (group : ℕ) (commands : List StoringCommand) : Type 0 where
+pub record FailsAtOne (old new : Shows) (fails : Fails) (group : ℕ) (commands : List StoringCommand) : Type 0 where
   pub command : StoringCommand
   pub is : commands ≡ command ∷ []
-  pub may_store : MayStore old new group command
+  pub may_store : MayStore old new fails group command
 
 -- one that failed did so at one of the commands: those before it are stored, it may be, and the others aren't
-abbrev pub FailsAmong : Shows → Shows → ℕ → List StoringCommand → Type 0
-FailsAmong old new group commands =
+abbrev pub FailsAmong : Shows → Shows → Fails → ℕ → List StoringCommand → Type 0
+FailsAmong old new fails group commands =
     (s : StoredGroup) → old group (s ∷ [])
     → (number : ℕ) × new group (after_storing_all (take number commands) s ∷ after_storing_all (take (number + 1) commands) s ∷ [])
+    × FailsAt fails number commands s

@@ -1,5 +1,5 @@
 //! What commands send.
-ghost use Rattle.std.specs.Prelude.{◌≡◌, ◌++◌, Some, IfOk, OnOk, List, [], ◌∷◌};
+ghost use Rattle.std.specs.Prelude.{◌≡◌, ◌++◌, Some, IfOk, OnOk, OnErr, List, [], ◌∷◌};
 ghost use Rattle.raft_group_step.specs.Values.{vote_lt};
 ghost use Rattle.raft_group_step.specs.Message.{Message as Said, SnapshotReply};
 ghost use Rattle.raft_progress.specs.declared.inflight.Inflight.TheVariants.{Logs};
@@ -8,7 +8,7 @@ ghost use Rattle.raft_engine.specs.Commands.{answer_of, number_of, request_to, s
 ghost use Rattle.raft_engine.specs.Sending.{reply_of};
 ghost use Rattle.raft_messages.specs.Messages.{outcome_of, reply_fields_of, request_id_of};
 ghost use Rattle.std.specs.Result.{result_err};
-ghost use Rattle.raft_group_storage.specs.Keeping.{KeepsAll};
+ghost use Rattle.raft_group_storage.specs.Keeping.{FailsAnyhow, KeepsAll};
 ghost use Rattle.raft_executor.specs.Said.{SaysAll, SaysBody, listed};
 
 use raft_commands::{Caller, Command, EngineOutput, RaftTypeConfig, Respond};
@@ -131,6 +131,7 @@ fn snapshot<S: GroupStorage>(
     ensures well { S.is_well storage.old → OnOk result (S.is_well storage.new) }
     ensures ok { (s : StoredGroup) → S.is_well storage.old → S.shows storage.old group (s ∷ []) → sender.now.vote ≡ s.vote
         → IfOk result (λ sent. SaysAll S.stands (listed sent) (snapshot_to sender.now.own peer id s s.snapshot)) }
+    ensures err { (s : StoredGroup) → S.is_well storage.old → S.shows storage.old group (s ∷ []) → OnErr result (FailsAnyhow (S.fails storage.new)) }
     ensures kept { KeepsAll (S.shows storage.old) (S.shows storage.new) }
     ensures met { S.meets storage.old storage.new (result_err result) }
 {
@@ -159,6 +160,7 @@ fn entries<S: GroupStorage>(
     ensures well { S.is_well storage.old → OnOk result (S.is_well storage.new) }
     ensures ok { (s : StoredGroup) → S.is_well storage.old → S.shows storage.old group (s ∷ []) → sender.now.vote ≡ s.vote
         → IfOk result (λ sent. SaysAll S.stands (listed sent) (request_to sender.now.own s sender.now.committed peer (Logs request.0 request.1))) }
+    ensures err { (s : StoredGroup) → S.is_well storage.old → S.shows storage.old group (s ∷ []) → OnErr result (FailsAnyhow (S.fails storage.new)) }
     ensures kept { KeepsAll (S.shows storage.old) (S.shows storage.new) }
     ensures met { S.meets storage.old storage.new (result_err result) }
 {
@@ -185,6 +187,7 @@ fn request<S: GroupStorage>(
     ensures well { S.is_well storage.old → OnOk result (S.is_well storage.new) }
     ensures ok { (s : StoredGroup) → S.is_well storage.old → S.shows storage.old group (s ∷ []) → sender.now.vote ≡ s.vote
         → IfOk result (λ sent. SaysAll S.stands (listed sent) (request_to sender.now.own s sender.now.committed peer inflight.now)) }
+    ensures err { (s : StoredGroup) → S.is_well storage.old → S.shows storage.old group (s ∷ []) → OnErr result (FailsAnyhow (S.fails storage.new)) }
     ensures kept { KeepsAll (S.shows storage.old) (S.shows storage.new) }
     ensures met { S.meets storage.old storage.new (result_err result) }
 {
@@ -210,6 +213,7 @@ pub fn sent<C: RaftTypeConfig<NodeId = u64, Node = BasicNode, D = Bytes>, S: Gro
     ensures well { S.is_well storage.old → OnOk result (S.is_well storage.new) }
     ensures ok { (s : StoredGroup) → S.is_well storage.old → S.shows storage.old group (s ∷ []) → sender.now.vote ≡ s.vote
         → IfOk result (λ sent. SaysAll S.stands (listed sent) (sending_of sender.now.own s sender.now.committed command.now)) }
+    ensures err { (s : StoredGroup) → S.is_well storage.old → S.shows storage.old group (s ∷ []) → OnErr result (FailsAnyhow (S.fails storage.new)) }
     ensures kept { KeepsAll (S.shows storage.old) (S.shows storage.new) }
     ensures met { S.meets storage.old storage.new (result_err result) }
 {
@@ -264,6 +268,7 @@ fn push_sent<C: RaftTypeConfig<NodeId = u64, Node = BasicNode, D = Bytes>, S: Gr
     ensures ok { (s : StoredGroup) (before : List Said) → S.is_well storage.old → S.shows storage.old group (s ∷ []) → sender.now.vote ≡ s.vote
         → SaysAll S.stands all.old.items before
         → OnOk result (SaysAll S.stands all.new.items (before ++ sending_of sender.now.own s sender.now.committed command.now)) }
+    ensures err { (s : StoredGroup) → S.is_well storage.old → S.shows storage.old group (s ∷ []) → OnErr result (FailsAnyhow (S.fails storage.new)) }
     ensures kept { KeepsAll (S.shows storage.old) (S.shows storage.new) }
     ensures met { S.meets storage.old storage.new (result_err result) }
 {
@@ -284,6 +289,7 @@ pub fn messages<C: RaftTypeConfig<NodeId = u64, Node = BasicNode, D = Bytes>, S:
     ensures well { S.is_well storage.old → OnOk result (S.is_well storage.new) }
     ensures ok { (s : StoredGroup) → S.is_well storage.old → S.shows storage.old group (s ∷ []) → sender.now.vote ≡ s.vote
         → IfOk result (λ sent. SaysAll S.stands sent.items (sent_by sender.now.own s sender.now.committed queue.now.queue)) }
+    ensures err { (s : StoredGroup) → S.is_well storage.old → S.shows storage.old group (s ∷ []) → OnErr result (FailsAnyhow (S.fails storage.new)) }
     ensures kept { KeepsAll (S.shows storage.old) (S.shows storage.new) }
     ensures met { S.meets storage.old storage.new (result_err result) }
 {

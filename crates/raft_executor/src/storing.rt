@@ -21,7 +21,7 @@ fn store_entries<S: GroupStorage>(
 ) -> Result<(), S::Fault>
     ensures well { S.is_well storage.old → OnOk result (S.is_well storage.new) }
     ensures ok { S.is_well storage.old → OnOk result (StoresAll (S.shows storage.old) (S.shows storage.new) group (put_all entries.now)) }
-    ensures err { S.is_well storage.old → OnErr result (MayStoreAll (S.shows storage.old) (S.shows storage.new) group (put_all entries.now)) }
+    ensures err { S.is_well storage.old → OnErr result (MayStoreAll (S.shows storage.old) (S.shows storage.new) (S.fails storage.new) group (put_all entries.now)) }
     ensures others { KeepsOthers (S.shows storage.old) (S.shows storage.new) group }
     ensures met { S.meets storage.old storage.new (result_err result) }
 {
@@ -41,7 +41,7 @@ fn store_snapshot<S: GroupStorage>(
     ensures ok { (x : Snapshot) → StandsOrNone S.stands (option_copied snapshot.entry) (Some x) → S.is_well storage.old
         → OnOk result (Stores (S.shows storage.old) (S.shows storage.new) group (SetSnapshot x)) }
     ensures err { (x : Snapshot) → StandsOrNone S.stands (option_copied snapshot.entry) (Some x) → S.is_well storage.old
-        → OnErr result (MayStore (S.shows storage.old) (S.shows storage.new) group (SetSnapshot x)) }
+        → OnErr result (MayStore (S.shows storage.old) (S.shows storage.new) (S.fails storage.new) group (SetSnapshot x)) }
     ensures others { KeepsOthers (S.shows storage.old) (S.shows storage.new) group }
     ensures met { S.meets storage.old storage.new (result_err result) }
 {
@@ -64,7 +64,7 @@ pub fn store<C: RaftTypeConfig<NodeId = u64, Node = BasicNode, D = Bytes>, S: Gr
     ensures ok { (x : Snapshot) → IsGiven S.stands (has_snapshot command.now) (option_copied snapshot.entry) x → S.is_well storage.old
         → OnOk result (StoresAll (S.shows storage.old) (S.shows storage.new) group (storing_of x command.now)) }
     ensures err { (x : Snapshot) → IsGiven S.stands (has_snapshot command.now) (option_copied snapshot.entry) x → S.is_well storage.old
-        → OnErr result (MayStoreAll (S.shows storage.old) (S.shows storage.new) group (storing_of x command.now)) }
+        → OnErr result (MayStoreAll (S.shows storage.old) (S.shows storage.new) (S.fails storage.new) group (storing_of x command.now)) }
     ensures others { KeepsOthers (S.shows storage.old) (S.shows storage.new) group }
     ensures met { S.meets storage.old storage.new (result_err result) }
 {
@@ -115,7 +115,7 @@ fn store_within<C: RaftTypeConfig<NodeId = u64, Node = BasicNode, D = Bytes>, S:
     ensures ok { (x : Snapshot) → IsGiven S.stands (has_snapshot command.now) (option_copied snapshot.entry) x → S.is_well storage.old
         → OnOk result (StoresAll (S.shows storage.old) (S.shows storage.new) group (first_of room (storing_of x command.now))) }
     ensures err { (x : Snapshot) → IsGiven S.stands (has_snapshot command.now) (option_copied snapshot.entry) x → S.is_well storage.old
-        → OnErr result (FailsAtOne (S.shows storage.old) (S.shows storage.new) group (first_of room (storing_of x command.now))) }
+        → OnErr result (FailsAtOne (S.shows storage.old) (S.shows storage.new) (S.fails storage.new) group (first_of room (storing_of x command.now))) }
     ensures others { KeepsOthers (S.shows storage.old) (S.shows storage.new) group }
     ensures met { S.meets storage.old storage.new (result_err result) }
 {
@@ -150,7 +150,7 @@ pub fn store_first<C: RaftTypeConfig<NodeId = u64, Node = BasicNode, D = Bytes>,
     ensures ok { (x : Snapshot) → IsGiven S.stands (queue_has_snapshot queue.now.queue) (option_copied snapshot.entry) x → S.is_well storage.old
         → OnOk result (StoresAll (S.shows storage.old) (S.shows storage.new) group (first_of limit (stored_by x queue.now.queue))) }
     ensures err { (x : Snapshot) → IsGiven S.stands (queue_has_snapshot queue.now.queue) (option_copied snapshot.entry) x → S.is_well storage.old
-        → OnErr result (FailsAmong (S.shows storage.old) (S.shows storage.new) group (first_of limit (stored_by x queue.now.queue))) }
+        → OnErr result (FailsAmong (S.shows storage.old) (S.shows storage.new) (S.fails storage.new) group (first_of limit (stored_by x queue.now.queue))) }
     ensures others { KeepsOthers (S.shows storage.old) (S.shows storage.new) group }
     ensures met { S.meets storage.old storage.new (result_err result) }
 {

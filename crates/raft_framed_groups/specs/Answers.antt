@@ -6,7 +6,7 @@ use Rattle.raft_group_step.specs.StoredGroup.{Snapshot, StoredGroup}
 use Rattle.raft_group_step.specs.GroupState.{GroupState}
 use Rattle.raft_group_step.specs.GroupEvent.{Call, GroupCall, GroupEvent, Receive}
 use Rattle.raft_group_step.specs.declared.group_call.GroupCall.TheVariants.{TriggerSnapshot}
-use Rattle.raft_group_storage.specs.Keeping.{KeepsOthers}
+use Rattle.raft_group_storage.specs.Keeping.{Fails, KeepsOthers}
 use Rattle.raft_messages.specs.declared.memberships.SnapshotBytes.{SnapshotBytes}
 use Rattle.raft_messages.specs.declared.message.Message.{Message as Sent}
 use Rattle.raft_executor.specs.Said.{Says}
@@ -46,13 +46,14 @@ IsOutcomeOf group ended.Skipped answer = answer ≡ Ok outcome.Down
 
 -- ---- a frame that came
 
--- a node: whether it has failed, which members it has, whether its storage is well, and what that shows
+-- a node: whether it has failed, which members it has, whether its storage is well, what that shows, and at which commands it may have failed
 pub record Node : Type 1 where
   pub own : ℕ
   pub has_failed : Bool
   pub members : ℕ → Option Member
   pub is_well : Type 0
   pub shows : ℕ → List StoredGroup → Type 0
+  pub fails : Fails
 
 -- what the node is in a group
 abbrev pub Stands : Node → ℕ → NodeState → Type 0
@@ -101,7 +102,7 @@ pub record IsOfGroup {F : Type 0} (old new : Node) (group : ℕ) (answer : Resul
 abbrev pub TakesCall : {F : Type 0} → (SnapshotBytes → Snapshot → Type 0) → Node → Node → ℕ → GroupCall → Option SnapshotBytes → ℕ → Result Outcome (AnswerError F) → Type 0
 TakesCall stands old new group call built now answer =
     (s : GroupState) → old.has_failed ≡ false → (call ≡ TriggerSnapshot → IsBuilt stands built s) → Stands old group (Up s) → IsLawful old.own s
-    → IsTakenOr (λ met member. HasBrokenOff new.is_well (new.shows group) new.own s (Call call now) member met) stands new group s (Call call now) answer
+    → IsTakenOr (λ met member. HasBrokenOff new.is_well (new.shows group) new.fails new.own s (Call call now) member met) stands new group s (Call call now) answer
 
 -- the group was asked, and the others stay
 pub record IsAsked {F : Type 0} (stands : SnapshotBytes → Snapshot → Type 0) (old new : Node) (group : ℕ) (call : GroupCall)
@@ -115,7 +116,7 @@ pub record IsAsked {F : Type 0} (stands : SnapshotBytes → Snapshot → Type 0)
 abbrev pub TakesMessage : {F : Type 0} → (SnapshotBytes → Snapshot → Type 0) → Node → Node → Frame → ℕ → Result Outcome (AnswerError F) → Type 0
 TakesMessage stands old new frame now answer =
     (m : Said) (s : GroupState) → old.has_failed ≡ false → Says stands frame.message m → Stands old frame.group (Up s) → IsLawful old.own s
-    → IsTakenOr (λ met member. HasBegun (HasStopped (new.shows frame.group) new.own s (Receive frame.message.sender m now) member) met)
+    → IsTakenOr (λ met member. HasBegun (HasStopped (new.shows frame.group) new.fails new.own s (Receive frame.message.sender m now) member) met)
     stands new frame.group s (Receive frame.message.sender m now) answer
 
 -- the frame's group took its message, and the others stay

@@ -19,9 +19,21 @@ Shows = ℕ → List StoredGroup → Type 0
 abbrev pub Stores : Shows → Shows → ℕ → StoringCommand → Type 0
 Stores old new group c = (s : StoredGroup) → old group (s ∷ []) → new group (after_storing c s ∷ [])
 
--- one that failed stored it or not
-abbrev pub MayStore : Shows → Shows → ℕ → StoringCommand → Type 0
-MayStore old new group c = (s : StoredGroup) → old group (s ∷ []) → new group (s ∷ after_storing c s ∷ [])
+-- the commands at which a call may have failed, each where this was stored
+abbrev pub Fails : Type 1
+Fails = StoringCommand → StoredGroup → Type 0
+
+-- any one, wherever: no command was refused for what it is
+abbrev pub FailsAnyhow : Fails → Type 0
+FailsAnyhow fails = (c : StoringCommand) (s : StoredGroup) → fails c s
+
+-- it may still have failed at the same
+abbrev pub KeepsFails : Fails → Fails → Type 0
+KeepsFails old new = (c : StoringCommand) (s : StoredGroup) → old c s → new c s
+
+-- one that failed stored it or not, and may have failed at it
+abbrev pub MayStore : Shows → Shows → Fails → ℕ → StoringCommand → Type 0
+MayStore old new fails group c = (s : StoredGroup) → old group (s ∷ []) → new group (s ∷ after_storing c s ∷ []) × fails c s
 
 -- what is shown of the other groups is shown still
 abbrev pub KeepsOthers : Shows → Shows → ℕ → Type 0

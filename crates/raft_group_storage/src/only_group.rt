@@ -26,6 +26,8 @@ impl GroupStorage for StoredGroup {
 
     ghost meets = { λ old new met. Unit {0} };
 
+    ghost fails = { λ x c s. Unit {0} };
+
     ghost shows_more = { λ x. only_shows_more x };
 
     ghost meets_none = { λ x. tt };
@@ -33,6 +35,8 @@ impl GroupStorage for StoredGroup {
     ghost meets_later = { λ x y z met before after. tt };
 
     ghost meets_want = { λ x y refused why gives before. tt };
+
+    ghost well_fails = { λ x well c s. tt };
 
     fn make_group(&mut self, group: u64) -> Result<(), AllocError> {
         if group == ONLY_GROUP {

@@ -84,6 +84,8 @@ impl GroupStorage for PlainGroups {
 
     ghost meets = { λ old new met. Unit {0} };
 
+    ghost fails = { λ x c s. Unit {0} };
+
     ghost shows_more = { λ x. among_shows_more x };
 
     ghost meets_none = { λ x. tt };
@@ -91,6 +93,8 @@ impl GroupStorage for PlainGroups {
     ghost meets_later = { λ x y z met before after. tt };
 
     ghost meets_want = { λ x y refused why gives before. tt };
+
+    ghost well_fails = { λ x well c s. tt };
 
     fn make_group(&mut self, group: u64) -> Result<(), AllocError> {
         let none = StoredGroup::new(self.alloc);

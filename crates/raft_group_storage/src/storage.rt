@@ -4,10 +4,10 @@ ghost use Rattle.std.specs.List.Sorted.{IsStrictlySortedBy};
 ghost use Rattle.std.specs.Ordering.{eq_by_cmp, nat_cmp};
 ghost use Rattle.std.specs.Set.{is_member};
 ghost use Rattle.std.specs.declared.alloc.AllocError.{AllocError};
-ghost use Rattle.raft_group_step.specs.StoredGroup.{Snapshot, StoredGroup};
+ghost use Rattle.raft_group_step.specs.StoredGroup.{Snapshot, StoredGroup, StoringCommand};
 ghost use Rattle.raft_group_step.specs.StoredGroup.{CutFrom, MakeGroup, PutEntries, RemoveUpTo, SetSnapshot, SetVote, StartAfter};
 ghost use Rattle.std.specs.Result.{result_err};
-ghost use Rattle.raft_group_storage.specs.Keeping.{KeepsAll, KeepsOthers, MayStore, ShowsMore, StandsOrNone, Stores, entries_of};
+ghost use Rattle.raft_group_storage.specs.Keeping.{FailsAnyhow, KeepsAll, KeepsOthers, MayStore, ShowsMore, StandsOrNone, Stores, entries_of};
 ghost use Rattle.raft_group_storage.specs.Loaded.{IsLoaded};
 ghost use Rattle.raft_messages.specs.Memberships.{snapshot_of};
 
@@ -40,11 +40,15 @@ pub trait GroupStorage: Drop {
     /// a storage tells why it fails.
     ghost meets: { Self → Self → Option Self.Fault → Type 0 };
 
+    /// The commands at which the last call may have failed, each where this was stored. By this a
+    /// storage tells what it refuses: any one, wherever, while no call has failed.
+    ghost fails: { Self → StoringCommand → StoredGroup → Type 0 };
+
     /// The node has the group from now on (own).
     fn make_group(&mut self, group: u64) -> Result<(), Self::Fault>
         ensures well { is_well self.old → OnOk result (is_well self.new) }
         ensures ok { is_well self.old → OnOk result (Stores (shows self.old) (shows self.new) group MakeGroup) }
-        ensures err { is_well self.old → OnErr result (MayStore (shows self.old) (shows self.new) group MakeGroup) }
+        ensures err { is_well self.old → OnErr result (MayStore (shows self.old) (shows self.new) (fails self.new) group MakeGroup) }
         ensures others { KeepsOthers (shows self.old) (shows self.new) group }
         ensures met { meets self.old self.new (result_err result) };
 
@@ -52,7 +56,7 @@ pub trait GroupStorage: Drop {
     fn set_vote(&mut self, group: u64, vote: Vote<u64>) -> Result<(), Self::Fault>
         ensures well { is_well self.old → OnOk result (is_well self.new) }
         ensures ok { is_well self.old → OnOk result (Stores (shows self.old) (shows self.new) group (SetVote vote)) }
-        ensures err { is_well self.old → OnErr result (MayStore (shows self.old) (shows self.new) group (SetVote vote)) }
+        ensures err { is_well self.old → OnErr result (MayStore (shows self.old) (shows self.new) (fails self.new) group (SetVote vote)) }
         ensures others { KeepsOthers (shows self.old) (shows self.new) group }
         ensures met { meets self.old self.new (result_err result) };
 
@@ -66,7 +70,7 @@ pub trait GroupStorage: Drop {
     ) -> Result<(), Self::Fault>
         ensures well { is_well self.old → OnOk result (is_well self.new) }
         ensures ok { is_well self.old → OnOk result (Stores (shows self.old) (shows self.new) group (PutEntries place entries.now)) }
-        ensures err { is_well self.old → OnErr result (MayStore (shows self.old) (shows self.new) group (PutEntries place entries.now)) }
+        ensures err { is_well self.old → OnErr result (MayStore (shows self.old) (shows self.new) (fails self.new) group (PutEntries place entries.now)) }
         ensures others { KeepsOthers (shows self.old) (shows self.new) group }
         ensures met { meets self.old self.new (result_err result) };
 
@@ -74,7 +78,7 @@ pub trait GroupStorage: Drop {
     fn cut_from(&mut self, group: u64, place: u64) -> Result<(), Self::Fault>
         ensures well { is_well self.old → OnOk result (is_well self.new) }
         ensures ok { is_well self.old → OnOk result (Stores (shows self.old) (shows self.new) group (CutFrom place)) }
-        ensures err { is_well self.old → OnErr result (MayStore (shows self.old) (shows self.new) group (CutFrom place)) }
+        ensures err { is_well self.old → OnErr result (MayStore (shows self.old) (shows self.new) (fails self.new) group (CutFrom place)) }
         ensures others { KeepsOthers (shows self.old) (shows self.new) group }
         ensures met { meets self.old self.new (result_err result) };
 
@@ -82,7 +86,7 @@ pub trait GroupStorage: Drop {
     fn remove_up_to(&mut self, group: u64, id: LogId<u64>) -> Result<(), Self::Fault>
         ensures well { is_well self.old → OnOk result (is_well self.new) }
         ensures ok { is_well self.old → OnOk result (Stores (shows self.old) (shows self.new) group (RemoveUpTo id)) }
-        ensures err { is_well self.old → OnErr result (MayStore (shows self.old) (shows self.new) group (RemoveUpTo id)) }
+        ensures err { is_well self.old → OnErr result (MayStore (shows self.old) (shows self.new) (fails self.new) group (RemoveUpTo id)) }
         ensures others { KeepsOthers (shows self.old) (shows self.new) group }
         ensures met { meets self.old self.new (result_err result) };
 
@@ -90,7 +94,7 @@ pub trait GroupStorage: Drop {
     fn set_snapshot(&mut self, group: u64, snapshot: &Self::Snapshot) -> Result<(), Self::Fault>
         ensures well { is_well self.old → OnOk result (is_well self.new) }
         ensures ok { (x : Snapshot) → is_well self.old → stands snapshot.now x → OnOk result (Stores (shows self.old) (shows self.new) group (SetSnapshot x)) }
-        ensures err { (x : Snapshot) → is_well self.old → stands snapshot.now x → OnErr result (MayStore (shows self.old) (shows self.new) group (SetSnapshot x)) }
+        ensures err { (x : Snapshot) → is_well self.old → stands snapshot.now x → OnErr result (MayStore (shows self.old) (shows self.new) (fails self.new) group (SetSnapshot x)) }
         ensures others { KeepsOthers (shows self.old) (shows self.new) group }
         ensures met { meets self.old self.new (result_err result) };
 
@@ -98,7 +102,7 @@ pub trait GroupStorage: Drop {
     fn start_after(&mut self, group: u64, id: LogId<u64>) -> Result<(), Self::Fault>
         ensures well { is_well self.old → OnOk result (is_well self.new) }
         ensures ok { is_well self.old → OnOk result (Stores (shows self.old) (shows self.new) group (StartAfter id)) }
-        ensures err { is_well self.old → OnErr result (MayStore (shows self.old) (shows self.new) group (StartAfter id)) }
+        ensures err { is_well self.old → OnErr result (MayStore (shows self.old) (shows self.new) (fails self.new) group (StartAfter id)) }
         ensures others { KeepsOthers (shows self.old) (shows self.new) group }
         ensures met { meets self.old self.new (result_err result) };
 
@@ -113,6 +117,7 @@ pub trait GroupStorage: Drop {
     ) -> Result<Entries<u64, BasicNode, Bytes>, Self::Fault>
         ensures well { is_well self.old → OnOk result (is_well self.new) }
         ensures ok { (s : StoredGroup) → is_well self.old → shows self.old group (s ∷ []) → IfOk result (λ copies. copies ≡ entries_of s prev last) }
+        ensures err { (s : StoredGroup) → is_well self.old → shows self.old group (s ∷ []) → OnErr result (FailsAnyhow (fails self.new)) }
         ensures kept { KeepsAll (shows self.old) (shows self.new) }
         ensures met { meets self.old self.new (result_err result) };
 
@@ -120,6 +125,7 @@ pub trait GroupStorage: Drop {
     fn snapshot(&mut self, alloc: Global, group: u64) -> Result<Option<Self::Snapshot>, Self::Fault>
         ensures well { is_well self.old → OnOk result (is_well self.new) }
         ensures ok { (s : StoredGroup) → is_well self.old → shows self.old group (s ∷ []) → IfOk result (λ copy. StandsOrNone stands copy s.snapshot) }
+        ensures err { (s : StoredGroup) → is_well self.old → shows self.old group (s ∷ []) → OnErr result (FailsAnyhow (fails self.new)) }
         ensures kept { KeepsAll (shows self.old) (shows self.new) }
         ensures met { meets self.old self.new (result_err result) };
 
@@ -132,6 +138,7 @@ pub trait GroupStorage: Drop {
     fn load(&mut self, alloc: Global, group: u64) -> Result<LoadedGroup, Self::Fault>
         ensures well { is_well self.old → OnOk result (is_well self.new) }
         ensures ok { (s : StoredGroup) → is_well self.old → shows self.old group (s ∷ []) → IfOk result (λ loaded. IsLoaded loaded s) }
+        ensures err { (s : StoredGroup) → is_well self.old → shows self.old group (s ∷ []) → OnErr result (FailsAnyhow (fails self.new)) }
         ensures kept { KeepsAll (shows self.old) (shows self.new) }
         ensures met { meets self.old self.new (result_err result) };
 
@@ -141,6 +148,7 @@ pub trait GroupStorage: Drop {
         ensures rising { is_well self.old → IfOk result (λ ids. IsStrictlySortedBy nat_cmp ids.items) }
         ensures ok { (group : ℕ) (s : StoredGroup) → is_well self.old → shows self.old group (s ∷ [])
             → IfOk result (λ ids. is_member (eq_by_cmp nat_cmp) ids.items group ≡ s.present) }
+        ensures err { is_well self.old → OnErr result (FailsAnyhow (fails self.new)) }
         ensures kept { KeepsAll (shows self.old) (shows self.new) }
         ensures met { meets self.old self.new (result_err result) };
 
@@ -155,4 +163,7 @@ pub trait GroupStorage: Drop {
 
     /// Memory may be missing at any time.
     ghost meets_want: { (x y : Self) (refused : AllocError) (why : Self.Fault) → Self.Fault.from_gives refused why → meets x y None → meets x y (Some why) };
+
+    /// Where no call has failed nothing was refused.
+    ghost well_fails: { (x : Self) → is_well x → FailsAnyhow (fails x) };
 }

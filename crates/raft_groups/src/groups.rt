@@ -86,7 +86,7 @@ impl<S: GroupStorage> Groups<S> {
         ensures ok { self.old.has_failed ≡ false → StandsAs self.old.id (get nat_cmp self.old.members) (S.is_well self.old.storage) (S.shows self.old.storage) group Absent
             → OnOk result (StandsAs self.old.id (get nat_cmp self.new.members) (S.is_well self.new.storage) (S.shows self.new.storage) group (Up (state_of (record no_group { present = true })))) }
         ensures err { self.old.has_failed ≡ false → StandsAs self.old.id (get nat_cmp self.old.members) (S.is_well self.old.storage) (S.shows self.old.storage) group Absent
-            → IfErr result (HasMet (λ met. S.shows self.new.storage group (no_group ∷ after_storing MakeGroup no_group ∷ []))) }
+            → IfErr result (HasMet (λ met. S.shows self.new.storage group (no_group ∷ after_storing MakeGroup no_group ∷ []) × S.fails self.new.storage MakeGroup no_group)) }
         ensures others { (other : ℕ) (x : NodeState) → (other ≡ group → ⊥)
             → StandsAs self.old.id (get nat_cmp self.old.members) (S.is_well self.old.storage) (S.shows self.old.storage) other x
             → OnOk result (StandsAs self.old.id (get nat_cmp self.new.members) (S.is_well self.new.storage) (S.shows self.new.storage) other x) }
@@ -118,7 +118,7 @@ impl<S: GroupStorage> Groups<S> {
             × StandsAs self.old.id (get nat_cmp self.new.members) (S.is_well self.new.storage) (S.shows self.new.storage) group (Up (state_of (record no_group { present = true })))) }
         ensures stored { (st : Stored) → S.is_well self.old.storage → S.shows self.old.storage group (st ∷ []) → st.present ≡ true → IfOk result (λ made. made ≡ false) }
         ensures err { S.is_well self.old.storage → S.shows self.old.storage group (no_group ∷ [])
-            → OnErr result (S.shows self.new.storage group (no_group ∷ after_storing MakeGroup no_group ∷ [])) }
+            → OnErr result (S.shows self.new.storage group (no_group ∷ after_storing MakeGroup no_group ∷ []) × S.fails self.new.storage MakeGroup no_group) }
         ensures well { S.is_well self.old.storage → OnOk result (S.is_well self.new.storage) }
         ensures same { (other : ℕ) → IfOk result (λ made. made ≡ false → get nat_cmp self.new.members other ≡ get nat_cmp self.old.members other) }
         ensures kept_all { IfOk result (λ made. made ≡ false → KeepsAll (S.shows self.old.storage) (S.shows self.new.storage)) }
@@ -140,7 +140,7 @@ impl<S: GroupStorage> Groups<S> {
         ensures ok { S.is_well self.old.storage → S.shows self.old.storage group (no_group ∷ [])
             → OnOk result (StandsAs self.old.id (get nat_cmp self.new.members) (S.is_well self.new.storage) (S.shows self.new.storage) group (Up (state_of (record no_group { present = true })))) }
         ensures err { S.is_well self.old.storage → S.shows self.old.storage group (no_group ∷ [])
-            → OnErr result (S.shows self.new.storage group (no_group ∷ after_storing MakeGroup no_group ∷ [])) }
+            → OnErr result (S.shows self.new.storage group (no_group ∷ after_storing MakeGroup no_group ∷ []) × S.fails self.new.storage MakeGroup no_group) }
         ensures well { S.is_well self.old.storage → OnOk result (S.is_well self.new.storage) }
         ensures others { (other : ℕ) → (other ≡ group → ⊥) → get nat_cmp self.new.members other ≡ get nat_cmp self.old.members other }
         ensures kept { KeepsOthers (S.shows self.old.storage) (S.shows self.new.storage) group }
@@ -189,7 +189,7 @@ impl<S: GroupStorage> Groups<S> {
         ensures err { (s : GroupState) → self.old.has_failed ≡ false → (call.now ≡ TriggerSnapshot → IsBuilt S.stands (option_copied built.entry) s)
             → StandsAs self.old.id (get nat_cmp self.old.members) (S.is_well self.old.storage) (S.shows self.old.storage) group (Up s) → IsLawful self.old.id s
             → IfErr result (HasMet (λ met. HasMember self.old.id (get nat_cmp self.new.members) group
-            (λ m. HasBrokenOff (S.is_well self.new.storage) (S.shows self.new.storage group) self.old.id s (Call call.now now) m met))) }
+            (λ m. HasBrokenOff (S.is_well self.new.storage) (S.shows self.new.storage group) (S.fails self.new.storage) self.old.id s (Call call.now now) m met))) }
         ensures others { (other : ℕ) (x : NodeState) → (other ≡ group → ⊥)
             → StandsAs self.old.id (get nat_cmp self.old.members) (S.is_well self.old.storage) (S.shows self.old.storage) other x
             → OnOk result (StandsAs self.old.id (get nat_cmp self.new.members) (S.is_well self.new.storage) (S.shows self.new.storage) other x) }
@@ -232,7 +232,7 @@ impl<S: GroupStorage> Groups<S> {
         ensures err { (m : Said) (s : GroupState) → self.old.has_failed ≡ false → Says S.stands message.now m
             → StandsAs self.old.id (get nat_cmp self.old.members) (S.is_well self.old.storage) (S.shows self.old.storage) group (Up s) → IsLawful self.old.id s
             → IfErr result (HasMet (λ met. HasMember self.old.id (get nat_cmp self.new.members) group
-            (λ member. HasBegun (HasStopped (S.shows self.new.storage group) self.old.id s (Receive message.now.sender m now) member) met))) }
+            (λ member. HasBegun (HasStopped (S.shows self.new.storage group) (S.fails self.new.storage) self.old.id s (Receive message.now.sender m now) member) met))) }
         ensures others { (other : ℕ) (x : NodeState) → (other ≡ group → ⊥)
             → StandsAs self.old.id (get nat_cmp self.old.members) (S.is_well self.old.storage) (S.shows self.old.storage) other x
             → OnOk result (StandsAs self.old.id (get nat_cmp self.new.members) (S.is_well self.new.storage) (S.shows self.new.storage) other x) }

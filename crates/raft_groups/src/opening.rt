@@ -29,7 +29,7 @@ impl<S: GroupStorage> Groups<S> {
         ensures found { (st : Stored) → S.is_well self.old.storage → S.shows self.old.storage group (st ∷ []) → IfOk result (λ found. is_some found ≡ st.present) }
         ensures none { get nat_cmp self.old.members group ≡ None → IfOk result (λ found. IfNone found (get nat_cmp self.new.members group ≡ None)) }
         ensures err { (st : Stored) → S.is_well self.old.storage → S.shows self.old.storage group (st ∷ []) → st.present ≡ true → IsOpenable self.old.id st
-            → OnErr result (IsLeftByOpening (S.shows self.new.storage group) self.old.id st) }
+            → OnErr result (IsLeftByOpening (S.shows self.new.storage group) (S.fails self.new.storage) self.old.id st) }
         ensures well { S.is_well self.old.storage → OnOk result (S.is_well self.new.storage) }
         ensures others { (other : ℕ) → (other ≡ group → ⊥) → get nat_cmp self.new.members other ≡ get nat_cmp self.old.members other }
         ensures kept { KeepsOthers (S.shows self.old.storage) (S.shows self.new.storage) group }
@@ -63,7 +63,7 @@ impl<S: GroupStorage> Groups<S> {
             → S.is_well self.old.storage → S.shows self.old.storage group (st ∷ []) → st.present ≡ false → IsRefusedAs UnknownGroup result }
         ensures err { (st : Stored) → self.old.has_failed ≡ false → get nat_cmp self.old.members group ≡ None
             → S.is_well self.old.storage → S.shows self.old.storage group (st ∷ []) → st.present ≡ true → IsOpenable self.old.id st
-            → IfErr result (HasMet (λ met. IsLeftByOpening (S.shows self.new.storage group) self.old.id st)) }
+            → IfErr result (HasMet (λ met. IsLeftByOpening (S.shows self.new.storage group) (S.fails self.new.storage) self.old.id st)) }
         ensures others { (other : ℕ) (x : NodeState) → (other ≡ group → ⊥)
             → StandsAs self.old.id (get nat_cmp self.old.members) (S.is_well self.old.storage) (S.shows self.old.storage) other x
             → OnOk result (StandsAs self.old.id (get nat_cmp self.new.members) (S.is_well self.new.storage) (S.shows self.new.storage) other x) }

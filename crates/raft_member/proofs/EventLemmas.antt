@@ -9,10 +9,12 @@ use Rattle.raft_group_step.specs.GroupEvent.{GroupCall, GroupEvent, Call, Receiv
 use Rattle.raft_group_step.specs.GroupStep.{group_step, step_unless}
 use Rattle.raft_group_step.specs.Message.{Message, MessageBody}
 use Rattle.raft_group_step.specs.Refusal.{is_right_party, is_sound, next_blank, numbers_of, range_reason, refusal_of, unknown_group, unless}
-use Rattle.raft_group_step.specs.StepResult.{BreaksCondition, RefusalReason, WrongParty, refused_step}
+use Rattle.raft_group_step.specs.StepResult.{BreaksCondition, RefusalReason, StepResult, WrongParty, refused_step}
 use Rattle.raft_group_step.proofs.Refusals.{unless_none as passes}
 use Rattle.raft_engine.proofs.EventLemmas.{no_first_reason}
 use Rattle.raft_engine.specs.Events.{HasTaken, MayTake, given_after, received}
+use Rattle.raft_executor.proofs.StoringLemmas.{fails_first}
+use Rattle.raft_group_storage.specs.Keeping.{Fails, FailsAnyhow}
 use Rattle.raft_laws.proofs.StepMoments.{moments_of_calls, moments_of_messages}
 use Rattle.raft_laws.proofs.StepOrder.{step-keeps}
 use Rattle.raft_member.specs.Member.{Engine, HasEnded, HasStopped, IsDown, IsIdle, IsLawful, IsUp}
@@ -24,9 +26,9 @@ use Rattle.raft_member.proofs.RunLemmas.{More, run_without_snapshot, shown_first
 
 -- ---- events that aren't refused
 
-module _ (shown : List StoredGroup → Type 0) (own : ℕ) (s : GroupState) (event : GroupEvent) where
-  pub stopped_as_halted : (m : Member) → refusal_of own s event ≡ None → HasHalted shown s.stored (group_step own s event) m → HasStopped shown own s event m
-  stopped_as_halted m accepted h = record { taken = accepted; number = h.number; no_engine = h.no_engine; stored = h.stored }
+module _ (shown : List StoredGroup → Type 0) (fails : Fails) (own : ℕ) (s : GroupState) (event : GroupEvent) where
+  pub stopped_as_halted : (m : Member) → refusal_of own s event ≡ None → HasHalted shown fails s.stored (group_step own s event) m → HasStopped shown fails own s event m
+  stopped_as_halted m accepted h = record { taken = accepted; number = h.number; no_engine = h.no_engine; stored = h.stored; failed = h.failed }
 
 -- there is room behind the log
 pub has_room_behind : (own : ℕ) (s : GroupState) → IsLawful own s → end_place s.stored < 2 ^ 64
@@ -42,13 +44,13 @@ may_take own e s event idle lawful accepted = record {
 }
 
 -- nothing was stored yet
-pub halted_at_once : (is_well : Type 0) (shown : List StoredGroup → Type 0) (own : ℕ) (s : GroupState) (event : GroupEvent) → More is_well shown
-    → (m : Member) → m.engine ≡ None → shown (s.stored ∷ [])
-    → HasHalted shown s.stored (group_step own s event) m
-halted_at_once is_well shown own s event more m none stored = record {
+pub halted_at_once : (is_well : Type 0) (shown : List StoredGroup → Type 0) (fails : Fails) (old : StoredGroup) (r : StepResult) → More is_well shown
+    → FailsAnyhow fails → (m : Member) → m.engine ≡ None → shown (old ∷ []) → HasHalted shown fails old r m
+halted_at_once is_well shown fails old r more anyhow m none stored = record {
   number = 0;
   no_engine = none;
   stored = shown_first is_well shown more _ _ _ refl stored;
+  failed = fails_first fails _ _ anyhow;
 }
 
 module _ {X : Type 0} (stands : X → Snapshot → Type 0) (is_well : Type 0) (shown : List StoredGroup → Type 0) (own : ℕ) (s : GroupState) (event : GroupEvent) where

@@ -1,7 +1,10 @@
 -- What a member that was down begins with, and how its opening runs.
-use Rattle.std.specs.Prelude.{◌≡◌, ℕ, ◌+◌, ◌-◌, ◌<◌, ◌≤◌, ◌^◌, true, false, if◌then◌else◌, List, [], ◌∷◌, ◌++◌, length, take, Option, Some, None, option_and_then, refl}
+use Rattle.std.specs.Prelude.{◌≡◌, ℕ, ◌+◌, ◌-◌, ◌<◌, ◌≤◌, ◌^◌, true, false, if◌then◌else◌, List, [], ◌∷◌, ◌++◌, drop, length, take, Option, Some, None, option_and_then, refl}
 use Rattle.std.proofs.Common.{ap, sym, ◌∙◌, subst, arith}
-use Rattle.std.proofs.Math.Seq.{take-append-add}
+use Rattle.std.proofs.Math.Seq.{drop-append-add, take-append-add}
+use Rattle.raft_executor.proofs.StoringLemmas.{fails_first}
+use Rattle.raft_executor.specs.Stored.{FailsFirst}
+use Rattle.raft_group_storage.specs.Keeping.{Fails, FailsAnyhow}
 use Rattle.raft_values.specs.declared.log_id.LogId.{LogId}
 use Rattle.raft_values.specs.LogId.{next_place, place_of}
 use Rattle.raft_group_step.specs.Message.{Message}
@@ -165,19 +168,20 @@ module _ (st : StoredGroup) where
     pub rest_begins : 0 ≡ rest.state.now
     rest_begins = sym (moments_of_openings own (state_of st)) ∙ ap (λ (r : StepResult). r.state.now) step_goes_on
 
+    all_commands : (group_step own (state_of st) Open).commands ≡ first ++ rest.commands
+    all_commands = ap (λ (r : StepResult). r.commands) step_goes_on ∙ ap (λ (r : StepResult). r.commands ++ rest.commands) opened_as
+
     -- a stop within the rest is one after what came first
     stops_as : (n : ℕ) → stopped_after n (opened st).state.stored rest ≡ stopped_after (length first + n) st (group_step own (state_of st) Open)
     stops_as n =
-        let commands : (group_step own (state_of st) Open).commands ≡ first ++ rest.commands =
-        ap (λ (r : StepResult). r.commands) step_goes_on ∙ ap (λ (r : StepResult). r.commands ++ rest.commands) opened_as in
         ap (after_storing_all (take n rest.commands)) opened_stored
         ∙ sym (after_both first (take n rest.commands) st)
         ∙ ap (λ cs. after_storing_all cs st) (sym (take-append-add first rest.commands n))
-        ∙ ap (λ cs. after_storing_all (take (length first + n) cs) st) (sym commands)
+        ∙ ap (λ cs. after_storing_all (take (length first + n) cs) st) (sym all_commands)
 
     module _ (is_well : Type 0) (shown : List StoredGroup → Type 0) where
-      pub stopped_of_halted : (m : Member) → HasHalted shown (opened st).state.stored rest m → HasStopped shown own (state_of st) Open m
-      stopped_of_halted m h =
+      pub stopped_of_halted : (fails : Fails) (m : Member) → HasHalted shown fails (opened st).state.stored rest m → HasStopped shown fails own (state_of st) Open m
+      stopped_of_halted fails m h =
           let step = group_step own (state_of st) Open in
           let next : length first + (h.number + 1) ≡ (length first + h.number) + 1 = omega arith in
           record {
@@ -188,24 +192,31 @@ module _ (st : StoredGroup) where
                 subst (λ (s : StoredGroup). shown (stopped_after (length first + h.number) st step ∷ s ∷ []))
                 (stops_as (h.number + 1) ∙ ap (λ k. stopped_after k st step) next)
                 (subst (λ (s : StoredGroup). shown (s ∷ stopped_after (h.number + 1) (opened st).state.stored rest ∷ [])) (stops_as h.number) h.stored);
+            failed =
+                subst (λ (l : List StoringCommand). FailsFirst fails l (stopped_after (length first + h.number) st step))
+                (sym (ap (drop (length first + h.number)) all_commands ∙ drop-append-add first rest.commands h.number))
+                (subst (λ (s : StoredGroup). FailsFirst fails (drop h.number rest.commands) s) (stops_as h.number) h.failed);
           }
 
       -- nothing of it was done yet, or the log was dropped or not
-      pub stopped_at_first : More is_well shown → (m : Member) → m.engine ≡ None → shown (st ∷ []) → HasStopped shown own (state_of st) Open m
-      stopped_at_first more m none stored = record {
+      pub stopped_at_first : More is_well shown → (fails : Fails) → FailsAnyhow fails → (m : Member) → m.engine ≡ None → shown (st ∷ [])
+          → HasStopped shown fails own (state_of st) Open m
+      stopped_at_first more fails anyhow m none stored = record {
         taken = refl;
         number = 0;
         no_engine = none;
         stored = shown_first is_well shown more _ _ _ refl stored;
+        failed = fails_first fails _ _ anyhow;
       }
 
-      pub stopped_in_first : More is_well shown → (m : Member) → m.engine ≡ None → (last : LogId ℕ) → stale_end st ≡ Some last
-          → shown (st ∷ after_storing (StartAfter last) st ∷ []) → HasStopped shown own (state_of st) Open m
-      stopped_in_first more m none last is stored = record {
+      pub stopped_in_first : More is_well shown → (fails : Fails) (m : Member) → m.engine ≡ None → (last : LogId ℕ) → stale_end st ≡ Some last
+          → shown (st ∷ after_storing (StartAfter last) st ∷ []) → fails (StartAfter last) st → HasStopped shown fails own (state_of st) Open m
+      stopped_in_first more fails m none last is stored failed = record {
         taken = refl;
         number = 0;
         no_engine = none;
         stored = subst (λ (s : StoredGroup). shown (st ∷ s ∷ [])) one stored;
+        failed = subst (λ (l : List StoringCommand). FailsFirst fails l st) (sym (all_commands ∙ ap (λ o. dropping o ++ rest.commands) is)) failed;
       }
         where
           one : after_storing (StartAfter last) st ≡ stopped_after 1 st (group_step own (state_of st) Open)

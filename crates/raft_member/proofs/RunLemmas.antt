@@ -1,5 +1,5 @@
 -- A step that is stored and sent, in part or whole.
-use Rattle.std.specs.Prelude.{◌≡◌, ◌⊎◌, ◌+◌, ℕ, zero, suc, Bool, true, false, ◌||◌, is_some, List, [], ◌∷◌, ◌++◌, take, length, Option, Some, None, refl}
+use Rattle.std.specs.Prelude.{◌≡◌, ◌⊎◌, ◌+◌, ℕ, zero, suc, Bool, true, false, ◌||◌, is_some, List, [], ◌∷◌, ◌++◌, drop, take, length, Option, Some, None, refl}
 use Rattle.std.proofs.Common.{sym, ap, subst, ◌∙◌, inl, inr, arith}
 use Rattle.std.proofs.Math.Seq.{take-length}
 use Rattle.raft_values.specs.declared.log_id.LogId.{LogId}
@@ -14,11 +14,12 @@ use Rattle.raft_commands.specs.declared.sm.CommandPayload.TheVariants.{BuildSnap
 use Rattle.raft_engine.specs.Commands.{Command, storing_of, storing_of_machine, stored_by, sent_by}
 use Rattle.raft_engine.specs.Standing.{IsWholeStepOf}
 use Rattle.raft_engine.specs.Turns.{Turn}
-use Rattle.raft_executor.specs.Stored.{IsGiven, first_of, has_snapshot, machine_has_snapshot, queue_has_snapshot}
+use Rattle.raft_executor.specs.Stored.{FailsAt, FailsFirst, IsGiven, first_of, has_snapshot, machine_has_snapshot, queue_has_snapshot}
 use Rattle.raft_laws.specs.Stop.{stopped_after}
 use Rattle.raft_laws.proofs.GroupsStay.{groups_stay}
 use Rattle.raft_member.specs.Member.{Engine, IsDown, IsIdle, IsUp}
-use Rattle.raft_group_storage.specs.Keeping.{IsOneOf}
+use Rattle.raft_executor.proofs.StoringLemmas.{fails_first}
+use Rattle.raft_group_storage.specs.Keeping.{Fails, FailsAnyhow, IsOneOf}
 use Rattle.raft_member.specs.Running.{HasHalted, IsRun}
 use Rattle.raft_member.specs.declared.member.Member.{Member}
 
@@ -151,17 +152,27 @@ take_none : (n : ℕ) → ◌≡◌ {A = List StoringCommand} (take n []) []
 take_none zero = refl
 take_none (suc n) = refl
 
+drop_none : (n : ℕ) → ◌≡◌ {A = List StoringCommand} (drop n []) []
+drop_none zero = refl
+drop_none (suc n) = refl
+
 -- a front of the first ones is a front, and behind it stands the next one, or none
-pub record IsFront (number : ℕ) (first cs : List StoringCommand) : Type 0 where
+pub record IsFront (number : ℕ) (first cs : List StoringCommand) : Type 1 where
   pub at : ℕ
   pub before : take number first ≡ take at cs
   pub behind : (take (number + 1) first ≡ take (at + 1) cs) ⊎ (take (number + 1) first ≡ take at cs)
+  pub next : (fails : Fails) (s : StoredGroup) → FailsFirst fails (drop number first) s → FailsFirst fails (drop at cs) s
 
 front_of_first : (number limit : ℕ) (cs : List StoringCommand) → IsFront number (take limit cs) cs
-front_of_first number zero cs = record { at = 0; before = take_none number; behind = inr (take_none (number + 1)) }
-front_of_first zero (suc limit) [] = record { at = 0; before = refl; behind = inl refl }
-front_of_first zero (suc limit) (c ∷ cs) = record { at = 0; before = refl; behind = inl refl }
-front_of_first (suc n) (suc limit) [] = record { at = 0; before = refl; behind = inl (take_none (suc n + 1)) }
+front_of_first number zero cs = record {
+  at = 0;
+  before = take_none number;
+  behind = inr (take_none (number + 1));
+  next = λ fails s h. fails_first fails cs s (subst (λ (l : List StoringCommand). FailsFirst fails l s) (drop_none number) h);
+}
+front_of_first zero (suc limit) [] = record { at = 0; before = refl; behind = inl refl; next = λ fails s h. h }
+front_of_first zero (suc limit) (c ∷ cs) = record { at = 0; before = refl; behind = inl refl; next = λ fails s h. h }
+front_of_first (suc n) (suc limit) [] = record { at = 0; before = refl; behind = inl (take_none (suc n + 1)); next = λ fails s h. h }
 front_of_first (suc n) (suc limit) (c ∷ cs) =
     let rest = front_of_first n limit cs in
     let one : suc n + 1 ≡ suc (n + 1) = omega arith in
@@ -175,10 +186,11 @@ front_of_first (suc n) (suc limit) (c ∷ cs) =
             | inl e ↦ inl (next ∙ (ap (λ (l : List StoringCommand). c ∷ l) e ∙ ap (λ k. take k (c ∷ cs)) (sym other)))
             | inr e ↦ inr (next ∙ ap (λ (l : List StoringCommand). c ∷ l) e)
           ];
+      next = λ fails s h. rest.next fails s h;
     }
 
 front_stored : (number : ℕ) (stop : Option ℕ) (cs : List StoringCommand) → IsFront number (first_of stop cs) cs
-front_stored number None cs = record { at = number; before = refl; behind = inl refl }
+front_stored number None cs = record { at = number; before = refl; behind = inl refl; next = λ fails s h. h }
 front_stored number (Some limit) cs = front_of_first number limit cs
 
 module _ (is_well : Type 0) (shown : List StoredGroup → Type 0) where
@@ -193,11 +205,11 @@ module _ (is_well : Type 0) (shown : List StoredGroup → Type 0) where
   module _ {X : Type 0} (stands : X → Snapshot → Type 0) (own : ℕ) (e : Engine) (old : StoredGroup) (r : StepResult) (given : Option X) (at : ℕ)
       (run : IsRun stands own e old r given at) (present : old.present ≡ true) where
     -- it stopped at one of the first ones
-    pub halted_within : More → (m : Member) → m.engine ≡ None → (stop : Option ℕ) (number : ℕ)
+    pub halted_within : More → (fails : Fails) (m : Member) → m.engine ≡ None → (stop : Option ℕ) (number : ℕ)
         → shown (after_storing_all (take number (first_of stop (stored_by run.taken.snapshot e.output.queue))) old
         ∷ after_storing_all (take (number + 1) (first_of stop (stored_by run.taken.snapshot e.output.queue))) old ∷ [])
-        → HasHalted shown old r m
-    halted_within more m none stop number h =
+        → FailsAt fails number (first_of stop (stored_by run.taken.snapshot e.output.queue)) old → HasHalted shown fails old r m
+    halted_within more fails m none stop number h failed =
         let front = front_stored number stop (stored_by run.taken.snapshot e.output.queue) in
         let same : (k : ℕ) → after_storing_all (take k (stored_by run.taken.snapshot e.output.queue)) old ≡ stopped_after k old r =
         λ k. ap (λ l. after_storing_all (take k l) old) run.step.stores in
@@ -219,19 +231,24 @@ module _ (is_well : Type 0) (shown : List StoredGroup → Type 0) where
                     ]
               ])
               h;
+          failed =
+              subst (λ l. FailsAt fails front.at l old) run.step.stores
+              (subst (λ l. FailsFirst fails (drop front.at (stored_by run.taken.snapshot e.output.queue)) (after_storing_all l old)) front.before (front.next fails _ failed));
         }
 
     all_stored : after_storing_all (first_of None (stored_by run.taken.snapshot e.output.queue)) old ≡ r.state.stored
     all_stored = ap (λ l. after_storing_all l old) run.step.stores ∙ sym run.stored
 
     -- all was stored, and nothing sent
-    pub halted_at_end : More → (m : Member) → m.engine ≡ None → shown (after_storing_all (first_of None (stored_by run.taken.snapshot e.output.queue)) old ∷ []) → HasHalted shown old r m
-    halted_at_end more m none h = record {
+    pub halted_at_end : More → (fails : Fails) → FailsAnyhow fails → (m : Member) → m.engine ≡ None
+        → shown (after_storing_all (first_of None (stored_by run.taken.snapshot e.output.queue)) old ∷ []) → HasHalted shown fails old r m
+    halted_at_end more fails anyhow m none h = record {
       number = length r.commands;
       no_engine = none;
       stored =
           shown_first more _ _ _
           (ap (λ l. after_storing_all l old) (run.step.stores ∙ sym (take-length r.commands))) h;
+      failed = fails_first fails _ _ anyhow;
     }
 
     -- it stopped where it was to

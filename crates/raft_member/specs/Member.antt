@@ -10,6 +10,8 @@ use Rattle.raft_engine.specs.Building.{IsSnapshotOfApplied, is_building}
 use Rattle.raft_engine.specs.Events.{IsReady}
 use Rattle.raft_engine.specs.Standing.{Engine as EngineOf, IsStateOf}
 use Rattle.raft_executor.specs.Said.{SaysAll}
+use Rattle.raft_executor.specs.Stored.{FailsAt}
+use Rattle.raft_group_storage.specs.Keeping.{Fails}
 use Rattle.raft_laws.specs.Stop.{stopped_after}
 use Rattle.raft_member.specs.declared.member.ByteGroup.{ByteGroup}
 use Rattle.raft_member.specs.declared.member.Member.{Member}
@@ -56,16 +58,17 @@ module _ (is_well : Type 0) (shown : List StoredGroup → Type 0) where
     pub present : kept.present ≡ true
 
 -- the event isn't refused; it stopped at one of its storing commands: those before it are stored, it may be, and the member is down
-pub record HasStopped (shown : List StoredGroup → Type 0) (own : ℕ) (s : GroupState) (event : GroupEvent) (m : Member) : Type 0 where
+pub record HasStopped (shown : List StoredGroup → Type 0) (fails : Fails) (own : ℕ) (s : GroupState) (event : GroupEvent) (m : Member) : Type 0 where
   pub taken : refusal_of own s event ≡ None
   pub number : ℕ
   pub no_engine : m.engine ≡ None
   pub stored : shown (stopped_after number s.stored (group_step own s event) ∷ stopped_after (number + 1) s.stored (group_step own s event) ∷ [])
+  pub failed : FailsAt fails number (group_step own s event).commands s.stored
 
 -- the event met a fault: before it was known whether it is refused, or once it was begun
-abbrev pub HasBrokenOff : {F : Type 0} → Type 0 → (List StoredGroup → Type 0) → ℕ → GroupState → GroupEvent → Member → Broken F → Type 0
-HasBrokenOff is_well shown own s event m (broken.Unjudged met) = IsDown is_well shown m s.stored
-HasBrokenOff is_well shown own s event m (broken.Begun met) = HasStopped shown own s event m
+abbrev pub HasBrokenOff : {F : Type 0} → Type 0 → (List StoredGroup → Type 0) → Fails → ℕ → GroupState → GroupEvent → Member → Broken F → Type 0
+HasBrokenOff is_well shown fails own s event m (broken.Unjudged met) = IsDown is_well shown m s.stored
+HasBrokenOff is_well shown fails own s event m (broken.Begun met) = HasStopped shown fails own s event m
 
 module _ {X : Type 0} (stands : X → Snapshot → Type 0) (is_well : Type 0) (shown : List StoredGroup → Type 0) where
   -- the event ended so at a member that was in this state, where it was to stop after so many storing commands, or to run on

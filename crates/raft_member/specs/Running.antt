@@ -8,7 +8,8 @@ use Rattle.raft_engine.specs.Standing.{Given, IsWholeStepOf}
 use Rattle.raft_messages.specs.declared.message.MessageBody.{MessageBody as Body}
 use Rattle.raft_messages.specs.declared.message.MessageBody.TheVariants.{VoteRequest, VoteReply, AppendRequest, AppendReply, SnapshotRequest, SnapshotReply}
 use Rattle.raft_executor.specs.Said.{SaysAll}
-use Rattle.raft_executor.specs.Stored.{IsGiven, queue_has_snapshot}
+use Rattle.raft_executor.specs.Stored.{FailsAt, IsGiven, queue_has_snapshot}
+use Rattle.raft_group_storage.specs.Keeping.{Fails}
 use Rattle.raft_laws.specs.Stop.{stopped_after}
 use Rattle.raft_member.specs.Member.{Engine, HasEnded, IsDown, IsUp}
 use Rattle.raft_member.specs.declared.member.Member.{Member}
@@ -45,10 +46,11 @@ left_at (Ok end) e m = left_by end e m
 left_at (Err met) e m = m
 
 -- the step stopped at one of its storing commands: those before it are stored, it may be, and the member is down
-pub record HasHalted (shown : List StoredGroup → Type 0) (old : StoredGroup) (r : StepResult) (m : Member) : Type 0 where
+pub record HasHalted (shown : List StoredGroup → Type 0) (fails : Fails) (old : StoredGroup) (r : StepResult) (m : Member) : Type 0 where
   pub number : ℕ
   pub no_engine : m.engine ≡ None
   pub stored : shown (stopped_after number old r ∷ stopped_after (number + 1) old r ∷ [])
+  pub failed : FailsAt fails number r.commands old
 
 module _ {X : Type 0} (stands : X → Snapshot → Type 0) (is_well : Type 0) (shown : List StoredGroup → Type 0) where
   -- the step ran to its end, or stopped where it was to stop

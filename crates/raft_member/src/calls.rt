@@ -138,7 +138,7 @@ impl Member {
         ensures err { (at : ℕ) (s : GroupState) → IsBuilt S.stands (option_copied built.entry) s
             → IsDown (S.is_well storage.old) (S.shows storage.old group) self.old s.stored → IsIdle self.old.id engine.old s → moment ≡ max s.now at
             → MayTake self.old.id engine.old s (Call TriggerSnapshot at)
-            → OnErr result (HasHalted (S.shows storage.new group) s.stored (group_step self.old.id s (Call TriggerSnapshot at)) self.new) }
+            → OnErr result (HasHalted (S.shows storage.new group) (S.fails storage.new) s.stored (group_step self.old.id s (Call TriggerSnapshot at)) self.new) }
         ensures others { KeepsOthers (S.shows storage.old) (S.shows storage.new) group }
         ensures met { S.meets storage.old storage.new (result_err result) }
     {
@@ -174,7 +174,7 @@ impl Member {
         ensures err { (at : ℕ) (s : GroupState) → (call.now ≡ TriggerSnapshot → IsBuilt S.stands (option_copied built.entry) s)
             → IsDown (S.is_well storage.old) (S.shows storage.old group) self.old s.stored → IsIdle self.old.id engine.old s → moment ≡ max s.now at
             → MayTake self.old.id engine.old s (Call call.now at)
-            → OnErr result (HasHalted (S.shows storage.new group) s.stored (group_step self.old.id s (Call call.now at)) self.new) }
+            → OnErr result (HasHalted (S.shows storage.new group) (S.fails storage.new) s.stored (group_step self.old.id s (Call call.now at)) self.new) }
         ensures others { KeepsOthers (S.shows storage.old) (S.shows storage.new) group }
         ensures met { S.meets storage.old storage.new (result_err result) }
     {
@@ -204,7 +204,7 @@ impl Member {
             → EndsTo S.stands (S.is_well storage.new) (S.shows storage.new group) self.old.id s (Call call.now now) stop engine.new self.new result }
         ensures err { (s : GroupState) → (call.now ≡ TriggerSnapshot → IsBuilt S.stands (option_copied built.entry) s)
             → IsDown (S.is_well storage.old) (S.shows storage.old group) self.old s.stored → self.old.moment ≡ s.now → IsIdle self.old.id engine.old s → IsLawful self.old.id s
-            → IfErr result (HasBrokenOff (S.is_well storage.new) (S.shows storage.new group) self.old.id s (Call call.now now) self.new) }
+            → IfErr result (HasBrokenOff (S.is_well storage.new) (S.shows storage.new group) (S.fails storage.new) self.old.id s (Call call.now now) self.new) }
         ensures taken { (s : GroupState) → s.stored.present ≡ true → IsIdle self.old.id engine.old s → IsLawful self.old.id s
             → OnErr result (refusal_of self.old.id s (Call call.now now) ≡ None) }
         ensures others { KeepsOthers (S.shows storage.old) (S.shows storage.new) group }
@@ -247,7 +247,7 @@ impl Member {
             → IfOk result (HasEnded S.stands (S.is_well storage.new) (S.shows storage.new group) self.old.id s (Call call.now now) stop self.new) }
         ensures err { (s : GroupState) → (call.now ≡ TriggerSnapshot → IsBuilt S.stands (option_copied built.entry) s)
             → IsUp (S.is_well storage.old) (S.shows storage.old group) self.old s → IsLawful self.old.id s
-            → IfErr result (HasBrokenOff (S.is_well storage.new) (S.shows storage.new group) self.old.id s (Call call.now now) self.new) }
+            → IfErr result (HasBrokenOff (S.is_well storage.new) (S.shows storage.new group) (S.fails storage.new) self.old.id s (Call call.now now) self.new) }
         ensures taken { (s : GroupState) → IsUp (S.is_well storage.old) (S.shows storage.old group) self.old s → IsLawful self.old.id s
             → OnErr result (refusal_of self.old.id s (Call call.now now) ≡ None) }
         ensures down { self.old.engine ≡ None → (result ≡ Ok Skipped) × (self.new ≡ self.old) × KeepsAll (S.shows storage.old) (S.shows storage.new) }

@@ -87,7 +87,7 @@ impl Member {
             → RunsTo S.stands (S.is_well storage.new) (S.shows storage.new group) old r stop engine.new self.new result }
         ensures err { (old : Stored) (r : StepResult) → IsDown (S.is_well storage.old) (S.shows storage.old group) self.old old
             → IsRun S.stands self.old.id engine.old old r (option_copied snapshot.entry) moment
-            → OnErr result (HasHalted (S.shows storage.new group) old r self.new) }
+            → OnErr result (HasHalted (S.shows storage.new group) (S.fails storage.new) old r self.new) }
         ensures others { KeepsOthers (S.shows storage.old) (S.shows storage.new) group }
         ensures met { S.meets storage.old storage.new (result_err result) }
     {
@@ -127,7 +127,7 @@ impl Member {
             → RunsTo S.stands (S.is_well storage.new) (S.shows storage.new group) old r stop engine.new self.new result }
         ensures err { (old : Stored) (r : StepResult) → IsDown (S.is_well storage.old) (S.shows storage.old group) self.old old
             → IsRun S.stands self.old.id engine.old old r None moment
-            → OnErr result (HasHalted (S.shows storage.new group) old r self.new) }
+            → OnErr result (HasHalted (S.shows storage.new group) (S.fails storage.new) old r self.new) }
         ensures others { KeepsOthers (S.shows storage.old) (S.shows storage.new) group }
         ensures met { S.meets storage.old storage.new (result_err result) }
     {

@@ -86,7 +86,7 @@ impl Member {
         ensures ok { S.is_well storage.old → S.shows storage.old group (no_group ∷ [])
             → IfOk result (λ m. (m.id ≡ id) × IsUp (S.is_well storage.new) (S.shows storage.new group) m (state_of (record no_group { present = true }))) }
         ensures err { (kept : Stored) → S.is_well storage.old → S.shows storage.old group (kept ∷ [])
-            → OnErr result (S.shows storage.new group (kept ∷ after_storing MakeGroup kept ∷ [])) }
+            → OnErr result (S.shows storage.new group (kept ∷ after_storing MakeGroup kept ∷ []) × S.fails storage.new MakeGroup kept) }
         ensures others { KeepsOthers (S.shows storage.old) (S.shows storage.new) group }
         ensures met { S.meets storage.old storage.new (result_err result) }
     {

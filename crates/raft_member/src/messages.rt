@@ -189,7 +189,7 @@ impl Member {
         ensures err { (y : Snapshot) (at : ℕ) (s : GroupState) → Brings S.stands message.now.body y
             → IsDown (S.is_well storage.old) (S.shows storage.old group) self.old s.stored → moment ≡ max s.now at
             → MayTake self.old.id engine.old s (received self.old.id message.now.sender (body_as (λ x. y) message.now.body) at)
-            → OnErr result (HasHalted (S.shows storage.new group) s.stored
+            → OnErr result (HasHalted (S.shows storage.new group) (S.fails storage.new) s.stored
             (group_step self.old.id s (received self.old.id message.now.sender (body_as (λ x. y) message.now.body) at)) self.new) }
         ensures others { KeepsOthers (S.shows storage.old) (S.shows storage.new) group }
         ensures met { S.meets storage.old storage.new (result_err result) }
@@ -223,7 +223,7 @@ impl Member {
             → EndsTo S.stands (S.is_well storage.new) (S.shows storage.new group) self.old.id s (Receive message.now.sender (message_as (λ x. y) message.now) now) stop engine.new self.new result }
         ensures err { (y : Snapshot) (s : GroupState) → Brings S.stands message.now.body y
             → IsDown (S.is_well storage.old) (S.shows storage.old group) self.old s.stored → self.old.moment ≡ s.now → IsIdle self.old.id engine.old s → IsLawful self.old.id s
-            → OnErr result (HasStopped (S.shows storage.new group) self.old.id s (Receive message.now.sender (message_as (λ x. y) message.now) now) self.new) }
+            → OnErr result (HasStopped (S.shows storage.new group) (S.fails storage.new) self.old.id s (Receive message.now.sender (message_as (λ x. y) message.now) now) self.new) }
         ensures others { KeepsOthers (S.shows storage.old) (S.shows storage.new) group }
         ensures met { S.meets storage.old storage.new (result_err result) }
     {
@@ -257,7 +257,7 @@ impl Member {
         ensures ok { (m : Said) (s : GroupState) → Says S.stands message.now m → IsUp (S.is_well storage.old) (S.shows storage.old group) self.old s → IsLawful self.old.id s
             → IfOk result (HasEnded S.stands (S.is_well storage.new) (S.shows storage.new group) self.old.id s (Receive message.now.sender m now) stop self.new) }
         ensures err { (m : Said) (s : GroupState) → Says S.stands message.now m → IsUp (S.is_well storage.old) (S.shows storage.old group) self.old s → IsLawful self.old.id s
-            → OnErr result (HasStopped (S.shows storage.new group) self.old.id s (Receive message.now.sender m now) self.new) }
+            → OnErr result (HasStopped (S.shows storage.new group) (S.fails storage.new) self.old.id s (Receive message.now.sender m now) self.new) }
         ensures down { self.old.engine ≡ None → (result ≡ Ok Skipped) × (self.new ≡ self.old) × KeepsAll (S.shows storage.old) (S.shows storage.new) }
         ensures others { KeepsOthers (S.shows storage.old) (S.shows storage.new) group }
         ensures met { S.meets storage.old storage.new (result_err result) }

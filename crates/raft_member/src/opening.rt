@@ -153,7 +153,7 @@ impl Member {
             (finished self.old.id None (resume_lead self.old.id (unchanged (opened st).state))) stop self.new) }
         ensures err { (st : Stored) → IsLoaded loaded.now (opened st).state.stored
             → IsDown (S.is_well storage.old) (S.shows storage.old group) self.old (opened st).state.stored → IsOpenable self.old.id st
-            → OnErr result (HasHalted (S.shows storage.new group) (opened st).state.stored
+            → OnErr result (HasHalted (S.shows storage.new group) (S.fails storage.new) (opened st).state.stored
             (finished self.old.id None (resume_lead self.old.id (unchanged (opened st).state))) self.new) }
         ensures others { KeepsOthers (S.shows storage.old) (S.shows storage.new) group }
         ensures met { S.meets storage.old storage.new (result_err result) }
@@ -183,7 +183,7 @@ impl Member {
         ensures ok { (st : Stored) → IsDown (S.is_well storage.old) (S.shows storage.old group) self.old st → IsOpenable self.old.id st
             → IfOk result (HasEnded S.stands (S.is_well storage.new) (S.shows storage.new group) self.old.id (state_of st) Open stop self.new) }
         ensures err { (st : Stored) → IsDown (S.is_well storage.old) (S.shows storage.old group) self.old st → IsOpenable self.old.id st
-            → OnErr result (HasStopped (S.shows storage.new group) self.old.id (state_of st) Open self.new) }
+            → OnErr result (HasStopped (S.shows storage.new group) (S.fails storage.new) self.old.id (state_of st) Open self.new) }
         ensures up { is_some self.old.engine ≡ true → (result ≡ Ok Skipped) × (self.new ≡ self.old) × KeepsAll (S.shows storage.old) (S.shows storage.new) }
         ensures others { KeepsOthers (S.shows storage.old) (S.shows storage.new) group }
         ensures met { S.meets storage.old storage.new (result_err result) }

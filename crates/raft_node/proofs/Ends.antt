@@ -9,10 +9,12 @@ use Rattle.raft_group_step.specs.GroupState.{GroupState}
 use Rattle.raft_group_step.specs.GroupStep.{group_step}
 use Rattle.raft_group_step.specs.Refusal.{refusal_of}
 use Rattle.raft_group_step.specs.StoredGroup.{Snapshot}
-use Rattle.raft_group_storage.specs.Keeping.{ShowsMore}
+use Rattle.raft_group_storage.specs.Keeping.{FailsAnyhow, ShowsMore}
 use Rattle.raft_messages.specs.declared.memberships.SnapshotBytes.{SnapshotBytes}
 use Rattle.raft_messages.specs.declared.message.Message.{Message as Sent}
+use Rattle.raft_executor.proofs.StoringLemmas.{fails_still}
 use Rattle.raft_executor.specs.Said.{SaysAll}
+use Rattle.raft_executor.specs.Stored.{FailsAt}
 use Rattle.raft_laws.specs.GroupWorld.{Up}
 use Rattle.raft_laws.specs.Stop.{stopped_after}
 use Rattle.raft_step_laws.specs.Tokens.{brought}
@@ -132,17 +134,18 @@ module _ (F : Type 0) (rules : MachineRules) (stands : SnapshotBytes → Snapsho
       → HasEnded {F = F} rules stands n group s e (Err (fault_of_refusal why))
   refused_ends n group s e why reason at = refused_as n group s e why (record { refusal = why; reason = reason; named = refl; at = at })
 
-  module _ (old new : NodeValue) (group : ℕ) (s : GroupState) (e : GroupEvent) (own : new.groups.own ≡ old.groups.own) (more : ShowsMore new.groups.shows) where
+  module _ (old new : NodeValue) (group : ℕ) (s : GroupState) (e : GroupEvent) (own : new.groups.own ≡ old.groups.own) (more : ShowsMore new.groups.shows)
+      (fine : new.groups.is_well → FailsAnyhow new.groups.fails) where
     taken_on : refusal_of old.groups.own s e ≡ None → refusal_of new.groups.own s e ≡ None
     taken_on taken = ap (λ n. refusal_of n s e) own ∙ taken
 
     -- the event was done, and what is stored of its group stays
     broken_behind : (why : Cause F) (unknown : List UnknownTokens) → refusal_of old.groups.own s e ≡ None → Stands old.groups group (Up (group_step old.groups.own s e).state)
-        → ((parts : _) → old.groups.shows group parts → new.groups.shows group parts) → named_of unknown group ≡ s.untold ++ brought s e
+        → ((parts : _) → old.groups.shows group parts → new.groups.shows group parts) → FailsAnyhow new.groups.fails → named_of unknown group ≡ s.untold ++ brought s e
         → IsCausedBy stands group (group_step old.groups.own s e).messages why → IsBroken stands new group s e why unknown
-    broken_behind why unknown taken up keeps named caused = record {
+    broken_behind why unknown taken up keeps anyhow named caused = record {
       taken = taken_on taken;
-      left = left_behind new group s e more (subst (λ n. new.groups.shows group ((group_step n s e).state.stored ∷ [])) (sym own) (keeps _ up.holds.stored));
+      left = left_behind new group s e more anyhow (subst (λ n. new.groups.shows group ((group_step n s e).state.stored ∷ [])) (sym own) (keeps _ up.holds.stored));
       named = named;
       caused = subst (λ n. IsCausedBy stands group (group_step n s e).messages why) (sym own) caused;
     }
@@ -158,7 +161,7 @@ module _ (F : Type 0) (rules : MachineRules) (stands : SnapshotBytes → Snapsho
       gone = h.gone;
     }
     followed_ends frames taken behind framed (Err (fault.Stopped (cause.Storage met) unknown)) h =
-        (h.0, broken_behind (cause.Storage met) unknown.items taken behind.up (h.1 group) (h.2 group ∙ waits rules (old.running group) (with_brought s e) behind.runs) tt)
+        (h.0, broken_behind (cause.Storage met) unknown.items taken behind.up (h.1 group) h.2 (h.3 group ∙ waits rules (old.running group) (with_brought s e) behind.runs) tt)
     followed_ends frames taken behind framed (Err other) h = absurd h
 
     -- what the event sends has no frame
@@ -169,9 +172,9 @@ module _ (F : Type 0) (rules : MachineRules) (stands : SnapshotBytes → Snapsho
         (λ unknown named. broken_by why missing unknown (named ∙ waits rules (old.running group) (with_brought s e) runs))
       where
         broken_by : (why : FrameError) → AnyNotFramed group messages why → (unknown : List UnknownTokens) → named_of unknown group ≡ s.untold ++ brought s e → HasStopped {F = F} stands new group s e unknown (cause_of_unsent why)
-        broken_by (frame_error.Fault f) missing unknown named = broken_behind (cause.Frame (frame_error.Fault f)) unknown said.taken said.up (told.kept group) named (messages, said.say, missing)
-        broken_by frame_error.StreamFailed missing unknown named = broken_behind (cause.Frame frame_error.StreamFailed) unknown said.taken said.up (told.kept group) named (messages, said.say, missing)
-        broken_by frame_error.Memory missing unknown named = broken_behind cause.Memory unknown said.taken said.up (told.kept group) named tt
+        broken_by (frame_error.Fault f) missing unknown named = broken_behind (cause.Frame (frame_error.Fault f)) unknown said.taken said.up (told.kept group) (fine (told.well said.up.holds.well)) named (messages, said.say, missing)
+        broken_by frame_error.StreamFailed missing unknown named = broken_behind (cause.Frame frame_error.StreamFailed) unknown said.taken said.up (told.kept group) (fine (told.well said.up.holds.well)) named (messages, said.say, missing)
+        broken_by frame_error.Memory missing unknown named = broken_behind cause.Memory unknown said.taken said.up (told.kept group) (fine (told.well said.up.holds.well)) named tt
 
     -- the groups met a fault in the event
     pub met_ends : (same : Type 0) (met : Broken F) (result : Fault F) → IsAnswered rules stands old group s e (Err (error.Groups (groups_fault.Stopped met)))
@@ -184,7 +187,14 @@ module _ (F : Type 0) (rules : MachineRules) (stands : SnapshotBytes → Snapsho
         stop_ends rules stands same old new group s e result (cause.Storage met) told by
         (λ unknown named. record {
           taken = taken_on halted.taken;
-          left = (halted.number, subst (λ n. new.groups.shows group (stopped_after halted.number s.stored (group_step n s e) ∷ stopped_after (halted.number + 1) s.stored (group_step n s e) ∷ [])) (sym own) (told.kept group _ halted.stored));
+          left = record {
+            shown = (
+              halted.number,
+              subst (λ n. new.groups.shows group (stopped_after halted.number s.stored (group_step n s e) ∷ stopped_after (halted.number + 1) s.stored (group_step n s e) ∷ [])) (sym own)
+                  (told.kept group _ halted.stored),
+            );
+            failed = subst (λ n. FailsAt new.groups.fails halted.number (group_step n s e).commands s.stored) (sym own) (fails_still old.groups.fails new.groups.fails _ _ told.failed halted.failed);
+          };
           named = named ∙ waits rules (old.running group) (with_brought s e) answered.runs;
           caused = tt;
         })

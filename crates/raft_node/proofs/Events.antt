@@ -35,7 +35,7 @@ use Rattle.raft_node.specs.Standing.{NodeValue}
 use Rattle.raft_node.specs.Waiting.{waiting_of}
 use Rattle.raft_node.specs.declared.outcome.Outcome.{Outcome}
 use Rattle.raft_node.proofs.Ends.{met_ends, unsent_ends, unsent_of}
-use Rattle.raft_group_storage.specs.Keeping.{ShowsMore}
+use Rattle.raft_group_storage.specs.Keeping.{Fails, FailsAnyhow, ShowsMore}
 
 -- ---- what a node makes of an answer
 
@@ -57,17 +57,17 @@ module _ {F : Type 0} where
 
   module _ (rules : MachineRules) (stands : SnapshotBytes → Snapshot → Type 0) (same : Type 0) (old new : NodeValue) (group : ℕ) (s : GroupState) (e : GroupEvent) where
     -- an event that has no answer ended so
-    pub error_ends : (met : AnswerError F) (why : Fault F) → ShowsMore new.groups.shows → IsAnswered rules stands old group s e (Err met) → IsTold same old new why → IsAnswerFault met why
+    pub error_ends : (met : AnswerError F) (why : Fault F) → ShowsMore new.groups.shows → (new.groups.is_well → FailsAnyhow new.groups.fails) → IsAnswered rules stands old group s e (Err met) → IsTold same old new why → IsAnswerFault met why
         → HasEnded rules stands new group s e (Err why)
-    error_ends (error.Stream f) why more answered told is = absurd (only_unsent group answered.taken.0 (error.Stream f) answered.taken.2)
-    error_ends error.WrongParty why more answered told is = absurd (only_unsent group answered.taken.0 error.WrongParty answered.taken.2)
-    error_ends (error.Groups groups_fault.Failed) why more answered told is = absurd answered.taken
-    error_ends (error.Groups groups_fault.UnknownGroup) why more answered told is = absurd answered.taken
-    error_ends (error.Groups groups_fault.GroupExists) why more answered told is = absurd answered.taken
-    error_ends (error.Groups (groups_fault.Stopped met)) why more answered told is = met_ends F rules stands old new group s e told.own more same met why answered told is
-    error_ends (error.Unsent f) why more answered told is =
+    error_ends (error.Stream f) why more fine answered told is = absurd (only_unsent group answered.taken.0 (error.Stream f) answered.taken.2)
+    error_ends error.WrongParty why more fine answered told is = absurd (only_unsent group answered.taken.0 error.WrongParty answered.taken.2)
+    error_ends (error.Groups groups_fault.Failed) why more fine answered told is = absurd answered.taken
+    error_ends (error.Groups groups_fault.UnknownGroup) why more fine answered told is = absurd answered.taken
+    error_ends (error.Groups groups_fault.GroupExists) why more fine answered told is = absurd answered.taken
+    error_ends (error.Groups (groups_fault.Stopped met)) why more fine answered told is = met_ends F rules stands old new group s e told.own more fine same met why answered told is
+    error_ends (error.Unsent f) why more fine answered told is =
         let x = unsent_of stands old group s e F f answered.taken.0 answered.taken.1 answered.taken.2 in
-        unsent_ends F rules stands old new group s e told.own more same f x.0 why x.1 x.2 answered.runs told is
+        unsent_ends F rules stands old new group s e told.own more fine same f x.0 why x.1 x.2 answered.runs told is
 
 -- ---- the others, over two parts of an event
 
@@ -154,14 +154,14 @@ runs_by rules r s e answered here behind = behind
 -- ---- the groups' own id
 
 abbrev pub with_own : Node → ℕ → Node
-with_own n own = record { own = own; has_failed = n.has_failed; members = n.members; is_well = n.is_well; shows = n.shows }
+with_own n own = record { own = own; has_failed = n.has_failed; members = n.members; is_well = n.is_well; shows = n.shows; fails = n.fails }
 
 module _ {F : Type 0} where
   pub taken_now : (n : Node) (own : ℕ) → own ≡ n.own → (stands : SnapshotBytes → Snapshot → Type 0) (group : ℕ) (s : GroupState) (e : GroupEvent) (answered : Result Framed (AnswerError F))
-      → IsTakenOr (λ met member. HasBrokenOff n.is_well (n.shows group) n.own s e member met) stands n group s e answered
-      → IsTakenOr (λ met member. HasBrokenOff n.is_well (n.shows group) own s e member met) stands (with_own n own) group s e answered
+      → IsTakenOr (λ met member. HasBrokenOff n.is_well (n.shows group) n.fails n.own s e member met) stands n group s e answered
+      → IsTakenOr (λ met member. HasBrokenOff n.is_well (n.shows group) n.fails own s e member met) stands (with_own n own) group s e answered
   taken_now n own is stands group s e answered h =
-      subst (λ k. IsTakenOr (λ met member. HasBrokenOff n.is_well (n.shows group) k s e member met) stands (with_own n k) group s e answered) (sym is) h
+      subst (λ k. IsTakenOr (λ met member. HasBrokenOff n.is_well (n.shows group) n.fails k s e member met) stands (with_own n k) group s e answered) (sym is) h
 
   pub of_group_now : (old n : Node) (own : ℕ) → own ≡ n.own → (group : ℕ) (answered : Result Framed (AnswerError F)) → IsOfGroup old n group answered → IsOfGroup old (with_own n own) group answered
   of_group_now old n own is group answered h = subst (λ k. IsOfGroup old (with_own n k) group answered) (sym is) h
@@ -199,18 +199,18 @@ of_wrong right before behind T answered (inl wrong) is = (wrong.1, wrong.2)
 of_wrong right before behind T answered (inr taken) is = absurd (let no : true ≡ false = sym taken.0 ∙ is in cc)
 
 -- what was begun broke off
-begun_breaks : {F : Type 0} (is_well : Type 0) (shown : List StoredGroup → Type 0) (own : ℕ) (s : GroupState) (e : GroupEvent) (member : Member) (met : Broken F) → HasBegun (HasStopped shown own s e member) met → HasBrokenOff is_well shown own s e member met
-begun_breaks is_well shown own s e member (broken.Unjudged why) h = absurd h
-begun_breaks is_well shown own s e member (broken.Begun why) h = h
+begun_breaks : {F : Type 0} (is_well : Type 0) (shown : List StoredGroup → Type 0) (fails : Fails) (own : ℕ) (s : GroupState) (e : GroupEvent) (member : Member) (met : Broken F) → HasBegun (HasStopped shown fails own s e member) met → HasBrokenOff is_well shown fails own s e member met
+begun_breaks is_well shown fails own s e member (broken.Unjudged why) h = absurd h
+begun_breaks is_well shown fails own s e member (broken.Begun why) h = h
 
 pub begun_taken : {F : Type 0} (stands : SnapshotBytes → Snapshot → Type 0) (n : Node) (group : ℕ) (s : GroupState) (e : GroupEvent) (answered : Result Framed (AnswerError F))
-    → IsTakenOr (λ met member. HasBegun (HasStopped (n.shows group) n.own s e member) met) stands n group s e answered
-    → IsTakenOr (λ met member. HasBrokenOff n.is_well (n.shows group) n.own s e member met) stands n group s e answered
+    → IsTakenOr (λ met member. HasBegun (HasStopped (n.shows group) n.fails n.own s e member) met) stands n group s e answered
+    → IsTakenOr (λ met member. HasBrokenOff n.is_well (n.shows group) n.fails n.own s e member met) stands n group s e answered
 begun_taken stands n group s e (Err (error.Groups groups_fault.Failed)) h = h
 begun_taken stands n group s e (Err (error.Groups groups_fault.UnknownGroup)) h = h
 begun_taken stands n group s e (Err (error.Groups groups_fault.GroupExists)) h = h
 begun_taken stands n group s e (Err (error.Groups (groups_fault.Stopped met))) h =
-    record { member = h.member; has = h.has; owned = h.owned; holds = begun_breaks n.is_well (n.shows group) n.own s e h.member met h.holds }
+    record { member = h.member; has = h.has; owned = h.owned; holds = begun_breaks n.is_well (n.shows group) n.fails n.own s e h.member met h.holds }
 begun_taken stands n group s e (Err (error.Stream why)) h = h
 begun_taken stands n group s e (Err error.WrongParty) h = h
 begun_taken stands n group s e (Err (error.Unsent why)) h = h

@@ -5,7 +5,8 @@ use Rattle.raft_group_step.specs.GroupEvent.{GroupEvent}
 use Rattle.raft_group_step.specs.GroupState.{GroupState}
 use Rattle.raft_group_step.specs.GroupStep.{group_step}
 use Rattle.raft_group_step.specs.StoredGroup.{Snapshot, StoredGroup, after_storing_all}
-use Rattle.raft_group_storage.specs.Keeping.{ShowsMore}
+use Rattle.raft_executor.proofs.StoringLemmas.{fails_first}
+use Rattle.raft_group_storage.specs.Keeping.{FailsAnyhow, ShowsMore}
 use Rattle.raft_messages.specs.declared.memberships.SnapshotBytes.{SnapshotBytes}
 use Rattle.raft_laws.specs.GroupWorld.{NodeState, Absent, Up, Down}
 use Rattle.raft_laws.specs.Stop.{stopped_after}
@@ -16,7 +17,7 @@ use Rattle.raft_node_faults.specs.declared.fault.Cause.{Cause}
 use Rattle.raft_node_faults.specs.declared.fault.Fault.{Fault}
 use Rattle.raft_node_faults.specs.declared.fault.Fault.TheVariants as fault
 use Rattle.raft_machines.specs.declared.telling.UnknownTokens.{UnknownTokens}
-use Rattle.raft_node.specs.Ending.{GoesOn, HasEnded, HasStopped, IsLeft, NamesElse, StaysElse}
+use Rattle.raft_node.specs.Ending.{GoesOn, HasEnded, HasStopped, IsLeft, IsShownLeft, NamesElse, StaysElse}
 use Rattle.raft_node.specs.Running.{Running}
 use Rattle.raft_node.specs.Settling.{IsStoppedBy, IsTold, NamesAll}
 use Rattle.raft_node.specs.Standing.{NodeValue}
@@ -86,14 +87,18 @@ module _ {F : Type 0} where
 -- ---- what is left
 
 -- nothing of the event was begun
-pub left_before : (n : NodeValue) (group : ℕ) (s : GroupState) (e : GroupEvent) → ShowsMore n.groups.shows → n.groups.shows group (s.stored ∷ []) → IsLeft n group s e
-left_before n group s e more shown =
+pub shown_before : (n : NodeValue) (group : ℕ) (s : GroupState) (e : GroupEvent) → ShowsMore n.groups.shows → n.groups.shows group (s.stored ∷ []) → IsShownLeft n.groups.shows n.groups.own group s e
+shown_before n group s e more shown =
     let r = group_step n.groups.own s e in
     (0, more group (s.stored ∷ []) (stopped_after 0 s.stored r ∷ stopped_after 1 s.stored r ∷ []) (λ x is. elim is [ inl same ↦ inl same | inr miss ↦ absurd miss ]) shown)
 
+pub left_before : (n : NodeValue) (group : ℕ) (s : GroupState) (e : GroupEvent) → ShowsMore n.groups.shows → FailsAnyhow n.groups.fails → n.groups.shows group (s.stored ∷ []) → IsLeft n group s e
+left_before n group s e more anyhow shown = record { shown = shown_before n group s e more shown; failed = fails_first n.groups.fails _ _ anyhow }
+
 -- all of it is stored
-pub left_behind : (n : NodeValue) (group : ℕ) (s : GroupState) (e : GroupEvent) → ShowsMore n.groups.shows → n.groups.shows group ((group_step n.groups.own s e).state.stored ∷ []) → IsLeft n group s e
-left_behind n group s e more shown =
+pub shown_behind : (n : NodeValue) (group : ℕ) (s : GroupState) (e : GroupEvent) → ShowsMore n.groups.shows → n.groups.shows group ((group_step n.groups.own s e).state.stored ∷ [])
+    → IsShownLeft n.groups.shows n.groups.own group s e
+shown_behind n group s e more shown =
     let r = group_step n.groups.own s e in
     let all : r.state.stored ≡ stopped_after (length r.commands) s.stored r =
     (step-keeps n.groups.own s e).stored ∙ ap (λ cs. after_storing_all cs s.stored) (sym (take-length r.commands)) in (
@@ -101,3 +106,7 @@ left_behind n group s e more shown =
       more group (r.state.stored ∷ []) (stopped_after (length r.commands) s.stored r ∷ stopped_after (length r.commands + 1) s.stored r ∷ [])
           (λ x is. elim is [ inl same ↦ inl (same ∙ all) | inr miss ↦ absurd miss ]) shown,
     )
+
+pub left_behind : (n : NodeValue) (group : ℕ) (s : GroupState) (e : GroupEvent) → ShowsMore n.groups.shows → FailsAnyhow n.groups.fails → n.groups.shows group ((group_step n.groups.own s e).state.stored ∷ [])
+    → IsLeft n group s e
+left_behind n group s e more anyhow shown = record { shown = shown_behind n group s e more shown; failed = fails_first n.groups.fails _ _ anyhow }

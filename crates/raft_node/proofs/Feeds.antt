@@ -7,7 +7,7 @@ use Rattle.std.proofs.lemmas.Bool.Decides.{Decides-eqb}
 use Rattle.std.proofs.lemmas.List.{drop-drop, drop_all}
 use Rattle.raft_group_step.specs.GroupState.{Untold}
 use Rattle.raft_group_step.specs.StoredGroup.{Snapshot, StoredGroup}
-use Rattle.raft_group_storage.specs.Keeping.{KeepsAll}
+use Rattle.raft_group_storage.specs.Keeping.{Fails, KeepsAll}
 use Rattle.raft_messages.specs.declared.memberships.SnapshotBytes.{SnapshotBytes}
 use Rattle.raft_laws.proofs.BallotAgreement.{same_some}
 use Rattle.raft_machines.specs.Machine.{MachineRules}
@@ -103,15 +103,16 @@ module _ {F : Type 0} where
     members = told.members;
     well = told.well;
     kept = told.kept;
+    failed = told.failed;
     streams = λ p. refl;
     fails = told.fails;
     names = back_names here same old.running why back told.names;
   }
 
 -- where a node's streams alone changed, all else stays
-pub same_but : {M S F : Type 0} {g : Ghosts M} (state : M → List ℕ) (is_well : S → Type 0) (shows : S → ℕ → List StoredGroup → Type 0) (peer : ℕ) (old mid new : ANode M S F g) → mid.groups ≡ old.groups → mid.machines ≡ old.machines → new ≡ mid
-    → StaysBut (value_of state is_well shows old) (value_of state is_well shows new) peer
-same_but state is_well shows peer old mid new groups machines is =
+pub same_but : {M S F : Type 0} {g : Ghosts M} (state : M → List ℕ) (is_well : S → Type 0) (shows : S → ℕ → List StoredGroup → Type 0) (fails : S → Fails) (peer : ℕ) (old mid new : ANode M S F g) → mid.groups ≡ old.groups → mid.machines ≡ old.machines → new ≡ mid
+    → StaysBut (value_of state is_well shows fails old) (value_of state is_well shows fails new) peer
+same_but state is_well shows fails peer old mid new groups machines is =
     let gr = ap (λ n. n.groups) is ∙ groups in
     let ma = ap (λ n. n.machines) is ∙ machines in
     record {
@@ -162,6 +163,7 @@ module _ (F : Type 0) (rules : MachineRules) (stands : SnapshotBytes → Snapsho
           members = told.members;
           well = told.well;
           kept = told.kept;
+          failed = told.failed;
           streams = same_streams a.2 others;
           fails = told.fails;
           names = room_names (StaysBut old new peer) old.running why r.0 told.names;
@@ -268,87 +270,87 @@ stays_but n peer = record { own = refl; has_failed = refl; members = λ group. r
 holds_still : (n : NodeValue) (peer : ℕ) → (n.streams peer).failed ≡ false → n.streams peer ≡ holding (n.streams peer).held
 holds_still n peer going = ap (λ b. record { held = (n.streams peer).held; failed = b }) going
 
-module _ {M S F : Type 0} {g : Ghosts M} (state : M → List ℕ) (is_well : S → Type 0) (shows : S → ℕ → List StoredGroup → Type 0) (rules : MachineRules) (stands : SnapshotBytes → Snapshot → Type 0) (peer now : ℕ) where
+module _ {M S F : Type 0} {g : Ghosts M} (state : M → List ℕ) (is_well : S → Type 0) (shows : S → ℕ → List StoredGroup → Type 0) (fails : S → Fails) (rules : MachineRules) (stands : SnapshotBytes → Snapshot → Type 0) (peer now : ℕ) where
   -- these outcomes came of the piece up to there, whatever comes of the rest
   unfoldable pub HasFed : List Outcome → ANode M S F g → ANode M S F g → List ℕ → ℕ → Type 0
   HasFed done old mid piece used =
-      (os : List Outcome) (fault : Option (Fault F)) (new : ANode M S F g) (rest : ℕ) → FeedsTo {F = F} (value_of state is_well shows) rules stands peer now os fault mid new (drop used piece) rest
-      → FeedsTo {F = F} (value_of state is_well shows) rules stands peer now (done ++ os) fault old new piece (used + rest)
+      (os : List Outcome) (fault : Option (Fault F)) (new : ANode M S F g) (rest : ℕ) → FeedsTo {F = F} (value_of state is_well shows fails) rules stands peer now os fault mid new (drop used piece) rest
+      → FeedsTo {F = F} (value_of state is_well shows fails) rules stands peer now (done ++ os) fault old new piece (used + rest)
 
   pub fed_none : (old : ANode M S F g) (piece : List ℕ) → HasFed [] old old piece 0
   unfolding HasFed
-  fed_none old piece = λ os fault new rest h. subst (FeedsTo {F = F} (value_of state is_well shows) rules stands peer now os fault old new piece) (let is : rest ≡ 0 + rest = omega arith in is) h
+  fed_none old piece = λ os fault new rest h. subst (FeedsTo {F = F} (value_of state is_well shows fails) rules stands peer now os fault old new piece) (let is : rest ≡ 0 + rest = omega arith in is) h
 
-  pub fed_more : (done : List Outcome) (old mid next : ANode M S F g) (piece : List ℕ) (used first : ℕ) (o : Outcome) → HasFed done old mid piece used → Comes {F = F} (value_of state is_well shows) rules stands peer now mid next (drop used piece) first (Ok (Some o))
+  pub fed_more : (done : List Outcome) (old mid next : ANode M S F g) (piece : List ℕ) (used first : ℕ) (o : Outcome) → HasFed done old mid piece used → Comes {F = F} (value_of state is_well shows fails) rules stands peer now mid next (drop used piece) first (Ok (Some o))
       → HasFed (done ++ o ∷ []) old next piece (used + first)
   unfolding HasFed
   fed_more done old mid next piece used first o was step = λ os fault new rest h.
-      let tail = subst (λ l. FeedsTo {F = F} (value_of state is_well shows) rules stands peer now os fault next new l rest) (sym (drop-drop first used piece)) h in
+      let tail = subst (λ l. FeedsTo {F = F} (value_of state is_well shows fails) rules stands peer now os fault next new l rest) (sym (drop-drop first used piece)) h in
       let all = was (o ∷ os) fault new (first + rest) (next, first, rest, refl, step, tail) in
-      subst (λ l. FeedsTo {F = F} (value_of state is_well shows) rules stands peer now l fault old new piece (used + first + rest)) (sym (append_assoc done (o ∷ []) os))
-      (subst (FeedsTo {F = F} (value_of state is_well shows) rules stands peer now (done ++ (o ∷ os)) fault old new piece) (let is : used + (first + rest) ≡ used + first + rest = omega arith in is) all)
+      subst (λ l. FeedsTo {F = F} (value_of state is_well shows fails) rules stands peer now l fault old new piece (used + first + rest)) (sym (append_assoc done (o ∷ []) os))
+      (subst (FeedsTo {F = F} (value_of state is_well shows fails) rules stands peer now (done ++ (o ∷ os)) fault old new piece) (let is : used + (first + rest) ≡ used + first + rest = omega arith in is) all)
 
   -- the last of it
-  pub fed_last : (done : List Outcome) (fault : Option (Fault F)) (old mid new : ANode M S F g) (piece : List ℕ) (used last : ℕ) → HasFed done old mid piece used → FeedsTo {F = F} (value_of state is_well shows) rules stands peer now [] fault mid new (drop used piece) last
-      → FeedsTo {F = F} (value_of state is_well shows) rules stands peer now done fault old new piece (used + last)
+  pub fed_last : (done : List Outcome) (fault : Option (Fault F)) (old mid new : ANode M S F g) (piece : List ℕ) (used last : ℕ) → HasFed done old mid piece used → FeedsTo {F = F} (value_of state is_well shows fails) rules stands peer now [] fault mid new (drop used piece) last
+      → FeedsTo {F = F} (value_of state is_well shows fails) rules stands peer now done fault old new piece (used + last)
   unfolding HasFed
-  fed_last done fault old mid new piece used last was h = subst (λ l. FeedsTo {F = F} (value_of state is_well shows) rules stands peer now l fault old new piece (used + last)) (append-nil done) (was [] fault new last h)
+  fed_last done fault old mid new piece used last was h = subst (λ l. FeedsTo {F = F} (value_of state is_well shows fails) rules stands peer now l fault old new piece (used + last)) (append-nil done) (was [] fault new last h)
 
-  pub fed_all : (done : List Outcome) (old mid : ANode M S F g) (piece : List ℕ) (used : ℕ) → HasFed done old mid piece used → length piece ≤ used → FeedsTo {F = F} (value_of state is_well shows) rules stands peer now done None old mid piece used
+  pub fed_all : (done : List Outcome) (old mid : ANode M S F g) (piece : List ℕ) (used : ℕ) → HasFed done old mid piece used → length piece ≤ used → FeedsTo {F = F} (value_of state is_well shows fails) rules stands peer now done None old mid piece used
   unfolding HasFed
   fed_all done old mid piece used was end =
-      subst (FeedsTo {F = F} (value_of state is_well shows) rules stands peer now done None old mid piece) (let is : used + 0 ≡ used = omega arith in is) (fed_last done None old mid mid piece used 0 was (inl (drop_all used piece end, refl, refl)))
+      subst (FeedsTo {F = F} (value_of state is_well shows fails) rules stands peer now done None old mid piece) (let is : used + 0 ≡ used = omega arith in is) (fed_last done None old mid mid piece used 0 was (inl (drop_all used piece end, refl, refl)))
 
   -- ---- one frame of a whole piece
 
-  module _ (old new : ANode M S F g) (piece : List ℕ) (frame : Frame) (fits : FitsFrame frame) (is : so_far (value_of state is_well shows old) peer piece ≡ spelled_frame frame) (some : 0 < length piece) (going : ((value_of state is_well shows old).streams peer).failed ≡ false) where
-    found : front (so_far (value_of state is_well shows old) peer piece) ≡ Some (Ok frame, length (so_far (value_of state is_well shows old) peer piece))
-    found = whole_found (so_far (value_of state is_well shows old) peer piece) frame fits is
+  module _ (old new : ANode M S F g) (piece : List ℕ) (frame : Frame) (fits : FitsFrame frame) (is : so_far (value_of state is_well shows fails old) peer piece ≡ spelled_frame frame) (some : 0 < length piece) (going : ((value_of state is_well shows fails old).streams peer).failed ≡ false) where
+    found : front (so_far (value_of state is_well shows fails old) peer piece) ≡ Some (Ok frame, length (so_far (value_of state is_well shows fails old) peer piece))
+    found = whole_found (so_far (value_of state is_well shows fails old) peer piece) frame fits is
 
-    size : length (so_far (value_of state is_well shows old) peer piece) ≡ length ((value_of state is_well shows old).streams peer).held + length piece
-    size = length-append ((value_of state is_well shows old).streams peer).held piece
+    size : length (so_far (value_of state is_well shows fails old) peer piece) ≡ length ((value_of state is_well shows fails old).streams peer).held + length piece
+    size = length-append ((value_of state is_well shows fails old).streams peer).held piece
 
-    ends_whole : (fault : Option (Fault F)) (used : ℕ) → FeedsTo {F = F} (value_of state is_well shows) rules stands peer now [] fault old new piece used → FeedsWhole rules stands (value_of state is_well shows old) (value_of state is_well shows new) peer now frame piece [] fault used
+    ends_whole : (fault : Option (Fault F)) (used : ℕ) → FeedsTo {F = F} (value_of state is_well shows fails) rules stands peer now [] fault old new piece used → FeedsWhole rules stands (value_of state is_well shows fails old) (value_of state is_well shows fails new) peer now frame piece [] fault used
     ends_whole None used (inl none) = absurd (let l : length piece ≡ 0 = ap length none.0 in omega arith)
-    ends_whole None used (inr step) = never_none F rules stands (value_of state is_well shows old) (value_of state is_well shows new) peer now piece frame _ found size some going used step.1
-    ends_whole (Some why) used step = fault_whole F rules stands (value_of state is_well shows old) (value_of state is_well shows new) peer now piece frame _ found size some going used why step.1
+    ends_whole None used (inr step) = never_none F rules stands (value_of state is_well shows fails old) (value_of state is_well shows fails new) peer now piece frame _ found size some going used step.1
+    ends_whole (Some why) used step = fault_whole F rules stands (value_of state is_well shows fails old) (value_of state is_well shows fails new) peer now piece frame _ found size some going used why step.1
 
-    frame_then : (os : List Outcome) (fault : Option (Fault F)) (o : Outcome) (mid : ANode M S F g) (first rest : ℕ) → Comes {F = F} (value_of state is_well shows) rules stands peer now old mid piece first (Ok (Some o)) → FeedsTo {F = F} (value_of state is_well shows) rules stands peer now os fault mid new (drop first piece) rest
-        → (used : ℕ) → used ≡ first + rest → FeedsWhole rules stands (value_of state is_well shows old) (value_of state is_well shows new) peer now frame piece (o ∷ os) fault used
+    frame_then : (os : List Outcome) (fault : Option (Fault F)) (o : Outcome) (mid : ANode M S F g) (first rest : ℕ) → Comes {F = F} (value_of state is_well shows fails) rules stands peer now old mid piece first (Ok (Some o)) → FeedsTo {F = F} (value_of state is_well shows fails) rules stands peer now os fault mid new (drop first piece) rest
+        → (used : ℕ) → used ≡ first + rest → FeedsWhole rules stands (value_of state is_well shows fails old) (value_of state is_well shows fails new) peer now frame piece (o ∷ os) fault used
     frame_then [] None o mid first rest step (inl none) used sum =
-        let came = came_whole F rules stands (value_of state is_well shows old) (value_of state is_well shows mid) peer now piece frame _ found size some going first o step.1 in
+        let came = came_whole F rules stands (value_of state is_well shows fails old) (value_of state is_well shows fails mid) peer now piece frame _ found size some going first o step.1 in
         let all : used ≡ length piece = let f = came.0 in let r = none.1 in omega arith in
-        (all, subst (λ n. FrameCame {F = F} rules stands (value_of state is_well shows old) (value_of state is_well shows n) peer now frame (Ok o)) (sym none.2) came.1)
+        (all, subst (λ n. FrameCame {F = F} rules stands (value_of state is_well shows fails old) (value_of state is_well shows fails n) peer now frame (Ok o)) (sym none.2) came.1)
     frame_then [] None o mid first rest step (inr more) used sum =
-        absurd (empty_left piece first (came_whole F rules stands (value_of state is_well shows old) (value_of state is_well shows mid) peer now piece frame _ found size some going first o step.1).0 more.0)
+        absurd (empty_left piece first (came_whole F rules stands (value_of state is_well shows fails old) (value_of state is_well shows fails mid) peer now piece frame _ found size some going first o step.1).0 more.0)
     frame_then [] (Some why) o mid first rest step more used sum =
-        absurd (empty_left piece first (came_whole F rules stands (value_of state is_well shows old) (value_of state is_well shows mid) peer now piece frame _ found size some going first o step.1).0 more.0)
+        absurd (empty_left piece first (came_whole F rules stands (value_of state is_well shows fails old) (value_of state is_well shows fails mid) peer now piece frame _ found size some going first o step.1).0 more.0)
     frame_then (p ∷ os) fault o mid first rest step more used sum =
-        absurd (empty_left piece first (came_whole F rules stands (value_of state is_well shows old) (value_of state is_well shows mid) peer now piece frame _ found size some going first o step.1).0 more.4.0)
+        absurd (empty_left piece first (came_whole F rules stands (value_of state is_well shows fails old) (value_of state is_well shows fails mid) peer now piece frame _ found size some going first o step.1).0 more.4.0)
 
-    pub feeds_whole : (os : List Outcome) (fault : Option (Fault F)) (used : ℕ) → FeedsTo {F = F} (value_of state is_well shows) rules stands peer now os fault old new piece used → FeedsWhole rules stands (value_of state is_well shows old) (value_of state is_well shows new) peer now frame piece os fault used
+    pub feeds_whole : (os : List Outcome) (fault : Option (Fault F)) (used : ℕ) → FeedsTo {F = F} (value_of state is_well shows fails) rules stands peer now os fault old new piece used → FeedsWhole rules stands (value_of state is_well shows fails old) (value_of state is_well shows fails new) peer now frame piece os fault used
     feeds_whole [] fault used h = ends_whole fault used h
     feeds_whole (o ∷ os) fault used h = frame_then os fault o h.0 h.1 h.2 h.4 h.5 used h.3
 
   -- ---- a part of a frame
 
-  module _ (old new : ANode M S F g) (piece : List ℕ) (waits : front (so_far (value_of state is_well shows old) peer piece) ≡ None) (going : ((value_of state is_well shows old).streams peer).failed ≡ false) where
-    nothing_fed : new ≡ old → piece ≡ [] → LeavesStream (value_of state is_well shows old) (value_of state is_well shows new) peer (holding (so_far (value_of state is_well shows old) peer piece)) × StaysBut (value_of state is_well shows old) (value_of state is_well shows new) peer
+  module _ (old new : ANode M S F g) (piece : List ℕ) (waits : front (so_far (value_of state is_well shows fails old) peer piece) ≡ None) (going : ((value_of state is_well shows fails old).streams peer).failed ≡ false) where
+    nothing_fed : new ≡ old → piece ≡ [] → LeavesStream (value_of state is_well shows fails old) (value_of state is_well shows fails new) peer (holding (so_far (value_of state is_well shows fails old) peer piece)) × StaysBut (value_of state is_well shows fails old) (value_of state is_well shows fails new) peer
     nothing_fed same none =
-        subst (λ n. LeavesStream (value_of state is_well shows old) (value_of state is_well shows n) peer (holding (so_far (value_of state is_well shows old) peer piece)) × StaysBut (value_of state is_well shows old) (value_of state is_well shows n) peer) (sym same) (
+        subst (λ n. LeavesStream (value_of state is_well shows fails old) (value_of state is_well shows fails n) peer (holding (so_far (value_of state is_well shows fails old) peer piece)) × StaysBut (value_of state is_well shows fails old) (value_of state is_well shows fails n) peer) (sym same) (
           (
-            subst (λ l. (value_of state is_well shows old).streams peer ≡ holding (((value_of state is_well shows old).streams peer).held ++ l)) (sym none) (holds_still (value_of state is_well shows old) peer going ∙ ap holding (sym (append-nil ((value_of state is_well shows old).streams peer).held))),
+            subst (λ l. (value_of state is_well shows fails old).streams peer ≡ holding (((value_of state is_well shows fails old).streams peer).held ++ l)) (sym none) (holds_still (value_of state is_well shows fails old) peer going ∙ ap holding (sym (append-nil ((value_of state is_well shows fails old).streams peer).held))),
             λ other apart. refl,
           ),
-          stays_but (value_of state is_well shows old) peer,
+          stays_but (value_of state is_well shows fails old) peer,
         )
 
-    pub feeds_part : (os : List Outcome) (fault : Option (Fault F)) (used : ℕ) → FeedsTo {F = F} (value_of state is_well shows) rules stands peer now os fault old new piece used → FeedsPart rules stands (value_of state is_well shows old) (value_of state is_well shows new) peer now piece os fault used
+    pub feeds_part : (os : List Outcome) (fault : Option (Fault F)) (used : ℕ) → FeedsTo {F = F} (value_of state is_well shows fails) rules stands peer now os fault old new piece used → FeedsPart rules stands (value_of state is_well shows fails old) (value_of state is_well shows fails new) peer now piece os fault used
     feeds_part [] None used (inl none) =
         let fed = nothing_fed none.2 none.0 in
         let l : length piece ≡ 0 = ap length none.0 in
         let all : used ≡ length piece = let u = none.1 in omega arith in
         (all, fed.0, fed.1)
-    feeds_part [] None used (inr step) = held_part F rules stands (value_of state is_well shows old) (value_of state is_well shows new) peer now piece waits going used step.1
-    feeds_part [] (Some why) used step = fault_part F rules stands (value_of state is_well shows old) (value_of state is_well shows new) peer now piece waits going used why step.1
-    feeds_part (o ∷ os) fault used h = absurd (never_some F rules stands (value_of state is_well shows old) (value_of state is_well shows h.0) peer now piece waits going h.1 o h.4.1)
+    feeds_part [] None used (inr step) = held_part F rules stands (value_of state is_well shows fails old) (value_of state is_well shows fails new) peer now piece waits going used step.1
+    feeds_part [] (Some why) used step = fault_part F rules stands (value_of state is_well shows fails old) (value_of state is_well shows fails new) peer now piece waits going used why step.1
+    feeds_part (o ∷ os) fault used h = absurd (never_some F rules stands (value_of state is_well shows fails old) (value_of state is_well shows fails h.0) peer now piece waits going h.1 o h.4.1)

@@ -9,3 +9,4 @@ pub mod Tokens
 pub mod Openings
 pub mod OpeningSteps
 pub mod Feeds
+pub mod Adding

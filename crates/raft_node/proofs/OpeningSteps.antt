@@ -1,5 +1,5 @@
 -- The steps by which a node opens a group, and how each of them stops.
-use Rattle.std.proofs.Common.{◌≡◌, ◌==◌, inl, inr, ℕ, Bool, true, false, List, [], ◌∷◌, Option, Some, None, Result, Ok, Err, IfErr, IfOk, OnOk, refl, sym, ap, subst, ◌∙◌}
+use Rattle.std.proofs.Common.{◌≡◌, ◌==◌, ◌+◌, inl, inr, ℕ, Bool, true, false, List, [], ◌∷◌, Option, Some, None, Result, Ok, Err, IfErr, IfOk, OnOk, refl, sym, ap, subst, ◌∙◌}
 use Rattle.std.specs.List.{AllZip}
 use Rattle.std.proofs.lemmas.Bool.Decides.{Decides-eqb}
 use Rattle.raft_conditions.specs.Reason.{reason_of}
@@ -7,11 +7,14 @@ use Rattle.raft_group_step.specs.GroupEvent.{Open}
 use Rattle.raft_group_step.specs.GroupState.{Untold, state_of}
 use Rattle.raft_group_step.specs.GroupStep.{group_step}
 use Rattle.raft_group_step.specs.StoredGroup.{Snapshot, StoredGroup}
-use Rattle.raft_group_storage.specs.Keeping.{KeepsAll, ShowsMore}
+use Rattle.raft_group_storage.specs.Keeping.{FailsAnyhow, KeepsAll, ShowsMore}
 use Rattle.raft_messages.specs.declared.memberships.SnapshotBytes.{SnapshotBytes}
 use Rattle.raft_messages.specs.declared.message.Message.{Message as Sent}
+use Rattle.raft_executor.proofs.StoringLemmas.{fails_still}
 use Rattle.raft_executor.specs.Said.{SaysAll}
+use Rattle.raft_executor.specs.Stored.{FailsAt}
 use Rattle.raft_laws.specs.GroupWorld.{Up}
+use Rattle.raft_laws.specs.Stop.{stopped_after}
 use Rattle.raft_laws.proofs.BallotAgreement.{same_some}
 use Rattle.raft_member.specs.Member.{HasEnded as EndsAtMember, IsUp}
 use Rattle.raft_member.specs.declared.member.Ended.{Ended}
@@ -30,7 +33,7 @@ use Rattle.raft_node_faults.specs.Fault.{cause_of}
 use Rattle.raft_node_faults.specs.declared.fault.Cause.{Cause}
 use Rattle.raft_node_faults.specs.declared.fault.Fault.{Fault}
 use Rattle.raft_node_faults.specs.declared.fault.Fault.TheVariants as fault
-use Rattle.raft_node.specs.Ending.{FailsBy, IsLeft, IsShownLeft}
+use Rattle.raft_node.specs.Ending.{FailsBy, IsLeft}
 use Rattle.raft_node.specs.Opening.{HasNotOpened, IsBegun, IsReopened, OpensGroup, StopsNaming}
 use Rattle.raft_node.specs.Running.{Running, RunsAt}
 use Rattle.raft_node.specs.Settling.{IsGroupsFault, IsStopFor, IsStoppedBy, IsTold, NamesAll}
@@ -38,7 +41,7 @@ use Rattle.raft_node.specs.Standing.{IsAt, NodeValue}
 use Rattle.raft_node.specs.Waiting.{waiting_of}
 use Rattle.raft_node.specs.declared.outcome.Outcome.{Outcome}
 use Rattle.raft_node.proofs.Ends.{waits}
-use Rattle.raft_node.proofs.Faults.{left_before, left_behind, stands_on}
+use Rattle.raft_node.proofs.Faults.{left_before, left_behind, shown_before, stands_on}
 use Rattle.raft_node.proofs.Openings.{none_waits, opened_group}
 
 -- ---- a member is opened
@@ -97,7 +100,7 @@ module _ {F : Type 0} where
 
   module _ (rules : MachineRules) (stands : SnapshotBytes → Snapshot → Type 0) (old new : NodeValue) (group : ℕ) (st : StoredGroup) (own : new.groups.own ≡ old.groups.own) (more : ShowsMore new.groups.shows) where
     -- the groups met a fault
-    pub fault_opens : (mid : Node) (same : Type 0) (met : GroupsFault F) (why : Fault F) → HasMet (λ broken. IsLeftByOpening (mid.shows group) old.groups.own st) met → IsGroupsFault met why
+    pub fault_opens : (mid : Node) (same : Type 0) (met : GroupsFault F) (why : Fault F) → HasMet (λ broken. IsLeftByOpening (mid.shows group) mid.fails old.groups.own st) met → IsGroupsFault met why
         → IsTold same (record { groups = mid; running = old.running; streams = old.streams }) new why → OpensGroup rules stands old new group st (Err why)
     fault_opens mid same groups_fault.Failed why h is told = absurd h
     fault_opens mid same groups_fault.UnknownGroup why h is told = absurd h
@@ -105,13 +108,16 @@ module _ {F : Type 0} where
     fault_opens mid same (groups_fault.Stopped met) why h is told =
         (stop_fails mid.has_failed new.groups.has_failed (cause_of met) why is told.fails, told_stops same old.running (cause_of met) why is told.names, left h)
       where
-        left : IsLeftByOpening (mid.shows group) old.groups.own st → IsLeft new group (state_of st) Open
-        left (inl shown) = left_before new group (state_of st) Open more (told.kept group _ shown)
-        left (inr shown) = subst (λ k. IsShownLeft new.groups.shows k group (state_of st) Open) (sym own) (shown.0, told.kept group _ shown.1)
+        left : IsLeftByOpening (mid.shows group) mid.fails old.groups.own st → IsLeft new group (state_of st) Open
+        left (inl shown) = left_before new group (state_of st) Open more (λ c s. told.failed c s (shown.1 c s)) (told.kept group _ shown.0)
+        left (inr shown) = record {
+          shown = (shown.0, subst (λ k. new.groups.shows group (stopped_after shown.0 st (group_step k (state_of st) Open) ∷ stopped_after (shown.0 + 1) st (group_step k (state_of st) Open) ∷ [])) (sym own) (told.kept group _ shown.1));
+          failed = subst (λ k. FailsAt new.groups.fails shown.0 (group_step k (state_of st) Open).commands st) (sym own) (fails_still mid.fails new.groups.fails _ _ told.failed shown.2);
+        }
 
     -- behind the step
-    pub behind_opens : (why : Fault F) → new.groups.has_failed ≡ true → StopsNaming old.running why → new.groups.shows group ((group_step old.groups.own (state_of st) Open).state.stored ∷ []) → OpensGroup rules stands old new group st (Err why)
-    behind_opens why failed names shown = (failed, names, left_behind new group (state_of st) Open more (subst (λ k. new.groups.shows group ((group_step k (state_of st) Open).state.stored ∷ [])) (sym own) shown))
+    pub behind_opens : (why : Fault F) → new.groups.has_failed ≡ true → StopsNaming old.running why → FailsAnyhow new.groups.fails → new.groups.shows group ((group_step old.groups.own (state_of st) Open).state.stored ∷ []) → OpensGroup rules stands old new group st (Err why)
+    behind_opens why failed names anyhow shown = (failed, names, left_behind new group (state_of st) Open more anyhow (subst (λ k. new.groups.shows group ((group_step k (state_of st) Open).state.stored ∷ [])) (sym own) shown))
 
 -- nobody waits for a group that was opened just now
 pub same_waiting : (rules : MachineRules) (own : ℕ) (st : StoredGroup) (group : ℕ) (a b : ℕ → Option Running) → RunsAt rules (a group) (group_step own (state_of st) Open).state → b group ≡ None → ((other : ℕ) → (other ≡ group → ⊥) → a other ≡ b other)
@@ -128,11 +134,11 @@ same_waiting rules own st group a b runs none others other = go (other == group)
 module _ {F : Type 0} (rules : MachineRules) (stands : SnapshotBytes → Snapshot → Type 0) (old mid new : NodeValue) (group : ℕ) (st : StoredGroup) (own : new.groups.own ≡ old.groups.own) (more : ShowsMore new.groups.shows) (same : Type 0) where
   pub opening_ends : (messages : List (Sent SnapshotBytes)) (r : Result Outcome (Fault F)) → OnOk r (IsAt rules new group (group_step old.groups.own (state_of st) Open).state) → SaysAll stands messages (group_step old.groups.own (state_of st) Open).messages
       → IfOk r (λ o. o.group ≡ group) → IfOk r (λ o. AllZip (IsFramed group) messages o.frames.items) → IfOk r (λ o. o.told.items ≡ []) → IfOk r (λ o. o.unknown.items ≡ []) → IfErr r (StopsNaming mid.running) → IfErr r (IsTold same mid new)
-      → ((other : ℕ) → waiting_of (mid.running other) ≡ waiting_of (old.running other)) → mid.groups.shows group ((group_step old.groups.own (state_of st) Open).state.stored ∷ []) → OpensGroup rules stands old new group st r
-  opening_ends messages (Ok o) at say is framed told unknown names tells waiting shown =
+      → ((other : ℕ) → waiting_of (mid.running other) ≡ waiting_of (old.running other)) → FailsAnyhow mid.groups.fails → mid.groups.shows group ((group_step old.groups.own (state_of st) Open).state.stored ∷ []) → OpensGroup rules stands old new group st r
+  opening_ends messages (Ok o) at say is framed told unknown names tells waiting anyhow shown =
       opened_group rules stands new group st o messages (subst (λ k. IsAt rules new group (group_step k (state_of st) Open).state) (sym own) at) (subst (λ k. SaysAll stands messages (group_step k (state_of st) Open).messages) (sym own) say) is framed told unknown
-  opening_ends messages (Err why) at say is framed told unknown names tells waiting shown =
-      behind_opens rules stands old new group st own more why (naming_fails mid.groups.has_failed new.groups.has_failed mid.running why names tells.fails) (stops_same mid.running old.running why waiting names) (tells.kept group _ shown)
+  opening_ends messages (Err why) at say is framed told unknown names tells waiting anyhow shown =
+      behind_opens rules stands old new group st own more why (naming_fails mid.groups.has_failed new.groups.has_failed mid.running why names tells.fails) (stops_same mid.running old.running why waiting names) (λ c s. tells.failed c s (anyhow c s)) (tells.kept group _ shown)
 
 -- ---- before the first group
 
@@ -150,10 +156,11 @@ begun_on old new kept begun own failed well keeps members idle = record {
   idle = idle;
 }
 
-pub stopped_first : {F : Type 0} (new : NodeValue) (kept : ℕ → StoredGroup) (running : ℕ → Option Running) (why : Fault F) → ShowsMore new.groups.shows → ((group : ℕ) → running group ≡ None) → StopsNaming running why → ((group : ℕ) → new.groups.shows group (kept group ∷ []))
-    → HasNotOpened new.groups.own kept new.groups.shows why
-stopped_first new kept running why more idle names shown = record {
+pub stopped_first : {F : Type 0} (new : NodeValue) (kept : ℕ → StoredGroup) (running : ℕ → Option Running) (why : Fault F) → ShowsMore new.groups.shows → FailsAnyhow new.groups.fails → ((group : ℕ) → running group ≡ None) → StopsNaming running why
+    → ((group : ℕ) → new.groups.shows group (kept group ∷ [])) → HasNotOpened new.groups.own kept new.groups.shows new.groups.fails why
+stopped_first new kept running why more anyhow idle names shown = record {
   stops = stops_same running (λ group. None) why (λ group. ap waiting_of (idle group)) names;
-  left = λ group present. left_before new group (state_of (kept group)) Open more (shown group);
+  left = λ group present. shown_before new group (state_of (kept group)) Open more (shown group);
   none = λ group absent. shown group;
+  failed = inl anyhow;
 }

@@ -15,7 +15,7 @@ use Rattle.raft_group_step.specs.GroupEvent.{Open}
 use Rattle.raft_group_step.specs.GroupState.{GroupState, state_of}
 use Rattle.raft_group_step.specs.GroupStep.{group_step}
 use Rattle.raft_group_step.specs.StoredGroup.{Snapshot, StoredGroup}
-use Rattle.raft_group_storage.specs.Keeping.{KeepsAll, KeepsOthers, ShowsMore}
+use Rattle.raft_group_storage.specs.Keeping.{FailsAnyhow, KeepsAll, KeepsOthers, ShowsMore}
 use Rattle.raft_messages.specs.declared.memberships.SnapshotBytes.{SnapshotBytes}
 use Rattle.raft_messages.specs.declared.message.Message.{Message as Sent}
 use Rattle.raft_executor.specs.Said.{SaysAll}
@@ -30,14 +30,14 @@ use Rattle.raft_laws.specs.OneList.{applied_list}
 use Rattle.raft_framed_groups.specs.Frames.{IsFramed}
 use Rattle.raft_node_faults.specs.declared.fault.Fault.{Fault}
 use Rattle.raft_node_faults.specs.declared.fault.Fault.TheVariants as fault
-use Rattle.raft_node.specs.Ending.{AreFramed, IsDone, IsLeft}
+use Rattle.raft_node.specs.Ending.{AreFramed, IsDone, IsLeft, IsShownLeft}
 use Rattle.raft_node.specs.Opening.{AreThere, HasNotOpened, HasOpened, IsBegun, IsUntouched, StopsNaming, groups_of}
 use Rattle.raft_node.specs.Running.{RunsAt}
 use Rattle.raft_node.specs.Standing.{IsAt, NodeValue}
 use Rattle.raft_node.specs.Waiting.{waiting_of}
 use Rattle.raft_node.specs.declared.outcome.Outcome.{Outcome}
 use Rattle.raft_node.proofs.Ends.{waits}
-use Rattle.raft_node.proofs.Faults.{left_before, left_behind, stands_on}
+use Rattle.raft_node.proofs.Faults.{shown_before, shown_behind, stands_on}
 
 -- ---- tokens
 
@@ -211,31 +211,36 @@ module _ (rules : MachineRules) (kept : ℕ → StoredGroup) where
     names_none (fault.Stopped cause unknown) names = λ group. names group ∙ nobody_waits group (way group)
     names_none other names = absurd names
 
-    left_of : (group : ℕ) → ((parts : List StoredGroup) → old.groups.shows group parts → new.groups.shows group parts) → Way old left group → IsLeft new group (state_of (kept group)) Open
+    left_of : (group : ℕ) → ((parts : List StoredGroup) → old.groups.shows group parts → new.groups.shows group parts) → Way old left group
+        → IsShownLeft new.groups.shows new.groups.own group (state_of (kept group)) Open
     left_of group keeps (inl up) =
-        left_behind new group (state_of (kept group)) Open more (subst (λ k. new.groups.shows group ((group_step k (state_of (kept group)) Open).state.stored ∷ [])) (sym own) (keeps _ up.at.up.holds.stored))
-    left_of group keeps (inr come) = left_before new group (state_of (kept group)) Open more (keeps _ come.untouched.stored)
+        shown_behind new group (state_of (kept group)) Open more (subst (λ k. new.groups.shows group ((group_step k (state_of (kept group)) Open).state.stored ∷ [])) (sym own) (keeps _ up.at.up.holds.stored))
+    left_of group keeps (inr come) = shown_before new group (state_of (kept group)) Open more (keeps _ come.untouched.stored)
 
     none_of : (group : ℕ) → ((parts : List StoredGroup) → old.groups.shows group parts → new.groups.shows group parts) → (kept group).present ≡ false → Way old left group → new.groups.shows group (kept group ∷ [])
     none_of group keeps absent (inl up) = absurd (let no : true ≡ false = sym up.present ∙ absent in cc)
     none_of group keeps absent (inr come) = keeps _ come.untouched.stored
 
     -- what is shown stays
-    pub stopped_here : (why : Fault F) → StopsNaming old.running why → KeepsAll old.groups.shows new.groups.shows → HasNotOpened new.groups.own kept new.groups.shows why
-    stopped_here why names keeps = record {
+    pub stopped_here : (why : Fault F) → StopsNaming old.running why → KeepsAll old.groups.shows new.groups.shows → FailsAnyhow new.groups.fails
+        → HasNotOpened new.groups.own kept new.groups.shows new.groups.fails why
+    stopped_here why names keeps anyhow = record {
       stops = names_none why names;
       left = λ group present. left_of group (keeps group) (way group);
       none = λ group absent. none_of group (keeps group) absent (way group);
+      failed = inl anyhow;
     }
 
     -- it stopped inside a group's opening
-    pub stopped_in : (g : ℕ) (why : Fault F) → (kept g).present ≡ true → StopsNaming old.running why → KeepsOthers old.groups.shows new.groups.shows g → IsLeft new g (state_of (kept g)) Open → HasNotOpened new.groups.own kept new.groups.shows why
+    pub stopped_in : (g : ℕ) (why : Fault F) → (kept g).present ≡ true → StopsNaming old.running why → KeepsOthers old.groups.shows new.groups.shows g → IsLeft new g (state_of (kept g)) Open
+        → HasNotOpened new.groups.own kept new.groups.shows new.groups.fails why
     stopped_in g why there names keeps inside = record {
       stops = names_none why names;
       left = λ group present. left_by group (eq_by_cmp nat_cmp group g) refl;
       none = λ group absent. none_of group (λ parts. keeps group parts (λ is. let no : true ≡ false = sym there ∙ subst (λ k. (kept k).present ≡ false) is absent in cc)) absent (way group);
+      failed = inr (g, there, inside.shown.0, inside.failed);
     }
       where
-        left_by : (group : ℕ) (b : Bool) → eq_by_cmp nat_cmp group g ≡ b → IsLeft new group (state_of (kept group)) Open
-        left_by group true is = subst (λ k. IsLeft new k (state_of (kept k)) Open) (sym (same_number group g is)) inside
+        left_by : (group : ℕ) (b : Bool) → eq_by_cmp nat_cmp group g ≡ b → IsShownLeft new.groups.shows new.groups.own group (state_of (kept group)) Open
+        left_by group true is = subst (λ k. IsShownLeft new.groups.shows new.groups.own k (state_of (kept k)) Open) (sym (same_number group g is)) inside.shown
         left_by group false is = left_of group (λ parts. keeps group parts (other_id group g is)) (way group)

@@ -13,6 +13,7 @@ use Rattle.raft_group_storage.specs.Keeping.{KeepsOthers, Shows}
 use Rattle.raft_messages.specs.declared.memberships.SnapshotBytes.{SnapshotBytes}
 use Rattle.raft_messages.specs.declared.message.Message.{Message as Sent}
 use Rattle.raft_executor.specs.Said.{SaysAll}
+use Rattle.raft_executor.specs.Stored.{FailsAt}
 use Rattle.raft_laws.specs.GroupWorld.{NodeState}
 use Rattle.raft_laws.specs.Stop.{stopped_after}
 use Rattle.raft_member.specs.Member.{IsLawful}
@@ -63,9 +64,10 @@ abbrev pub IsShownLeft : Shows → ℕ → ℕ → GroupState → GroupEvent →
 IsShownLeft shows own group s e =
     (number : ℕ) × shows group (stopped_after number s.stored (group_step own s e) ∷ stopped_after (number + 1) s.stored (group_step own s e) ∷ [])
 
--- and so the node's does
-abbrev pub IsLeft : NodeValue → ℕ → GroupState → GroupEvent → Type 0
-IsLeft n group s e = IsShownLeft n.groups.shows n.groups.own group s e
+-- and so the node's does, which may have failed at the first command that isn't done
+pub record IsLeft (n : NodeValue) (group : ℕ) (s : GroupState) (e : GroupEvent) : Type 0 where
+  pub shown : IsShownLeft n.groups.shows n.groups.own group s e
+  pub failed : FailsAt n.groups.fails shown.0 (group_step n.groups.own s e).commands s.stored
 
 -- where a frame is the cause, one of the messages has none
 abbrev pub IsCausedBy : {F : Type 0} → (SnapshotBytes → Snapshot → Type 0) → ℕ → List Said → Cause F → Type 0

@@ -1,5 +1,5 @@
 -- How a node is opened with what its storage has.
-use Rattle.std.specs.Prelude.{◌≡◌, ℕ, true, false, List, [], ◌∷◌, map, All, Option, None, Result, Ok, Err}
+use Rattle.std.specs.Prelude.{◌≡◌, ◌⊎◌, ℕ, true, false, List, [], ◌∷◌, map, All, Option, None, Result, Ok, Err}
 use Rattle.std.specs.List.Sorted.{IsStrictlySortedBy}
 use Rattle.std.specs.Ordering.{eq_by_cmp, nat_cmp}
 use Rattle.std.specs.Set.{is_member}
@@ -7,7 +7,8 @@ use Rattle.raft_group_step.specs.GroupEvent.{Open}
 use Rattle.raft_group_step.specs.GroupState.{state_of}
 use Rattle.raft_group_step.specs.GroupStep.{group_step}
 use Rattle.raft_group_step.specs.StoredGroup.{Snapshot, StoredGroup}
-use Rattle.raft_group_storage.specs.Keeping.{Shows}
+use Rattle.raft_group_storage.specs.Keeping.{Fails, FailsAnyhow, Shows}
+use Rattle.raft_executor.specs.Stored.{FailsAt}
 use Rattle.raft_messages.specs.declared.memberships.SnapshotBytes.{SnapshotBytes}
 use Rattle.raft_member.specs.Opening.{IsOpenable}
 use Rattle.raft_applier.specs.Following.{HasWholeSnapshot}
@@ -78,9 +79,16 @@ pub record HasOpened (rules : MachineRules) (stands : SnapshotBytes → Snapshot
   pub at : (group : ℕ) → (kept group).present ≡ true → IsAt rules n group (group_step n.groups.own (state_of (kept group)) Open).state
   pub none : (group : ℕ) → (kept group).present ≡ false → IsUntouched n group (kept group)
 
+-- no command was refused, or the opening of a group that is there may have failed at a command behind those that are done
+abbrev pub FailsInOpening : Fails → ℕ → (ℕ → StoredGroup) → Type 0
+FailsInOpening fails own kept =
+    FailsAnyhow fails
+    ⊎ ((group : ℕ) × ((kept group).present ≡ true) × (number : ℕ) × FailsAt fails number (group_step own (state_of (kept group)) Open).commands (kept group))
+
 -- The opening stopped, and nobody waited: of each group the storing commands of its opening are done from the first on, it may be
 -- none or all, and the next one is or isn't
-pub record HasNotOpened {F : Type 0} (own : ℕ) (kept : ℕ → StoredGroup) (shows : Shows) (why : Fault F) : Type 0 where
+pub record HasNotOpened {F : Type 0} (own : ℕ) (kept : ℕ → StoredGroup) (shows : Shows) (fails : Fails) (why : Fault F) : Type 0 where
   pub stops : StopsNaming (λ group. None) why
   pub left : (group : ℕ) → (kept group).present ≡ true → IsShownLeft shows own group (state_of (kept group)) Open
   pub none : (group : ℕ) → (kept group).present ≡ false → shows group (kept group ∷ [])
+  pub failed : FailsInOpening fails own kept

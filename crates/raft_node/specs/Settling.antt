@@ -4,7 +4,7 @@ use Rattle.raft_group_step.specs.GroupEvent.{GroupEvent}
 use Rattle.raft_group_step.specs.GroupState.{GroupState, Untold}
 use Rattle.raft_group_step.specs.GroupStep.{group_step}
 use Rattle.raft_group_step.specs.StoredGroup.{Snapshot}
-use Rattle.raft_group_storage.specs.Keeping.{KeepsAll}
+use Rattle.raft_group_storage.specs.Keeping.{FailsAnyhow, KeepsAll, KeepsFails}
 use Rattle.raft_messages.specs.declared.memberships.SnapshotBytes.{SnapshotBytes}
 use Rattle.raft_laws.specs.GroupWorld.{Up}
 use Rattle.raft_member.specs.Member.{HasBrokenOff}
@@ -66,6 +66,7 @@ pub record IsTold {F : Type 0} (same : Type 0) (old new : NodeValue) (why : Faul
   pub members : (group : ℕ) → new.groups.members group ≡ old.groups.members group
   pub well : old.groups.is_well → new.groups.is_well
   pub kept : KeepsAll old.groups.shows new.groups.shows
+  pub failed : KeepsFails old.groups.fails new.groups.fails
   pub streams : (peer : ℕ) → new.streams peer ≡ old.streams peer
   pub fails : FailsBy {T = Outcome} old.groups.has_failed (Err why) new.groups.has_failed
   pub names : NamesAll same old.running why
@@ -118,7 +119,7 @@ pub record HasFollowed (rules : MachineRules) (n : NodeValue) (group : ℕ) (s :
 abbrev pub FollowsTo : {F : Type 0} → MachineRules → NodeValue → NodeValue → ℕ → GroupState → GroupEvent → List GroupFrame → Result Outcome (Fault F) → Type 0
 FollowsTo rules old new group s e frames (Ok o) = HasFollowed rules new group s e frames o
 FollowsTo rules old new group s e frames (Err (fault.Stopped (cause.Storage met) unknown)) =
-    (new.groups.has_failed ≡ true) × KeepsAll old.groups.shows new.groups.shows × AreNamed old.running unknown.items
+    (new.groups.has_failed ≡ true) × KeepsAll old.groups.shows new.groups.shows × FailsAnyhow new.groups.fails × AreNamed old.running unknown.items
 FollowsTo rules old new group s e frames (Err other) = ⊥
 
 -- ---- what a group answered
@@ -132,7 +133,7 @@ waits_in s e answered = with_brought s e
 -- the group was in this state, and this is what became of the event there
 abbrev pub IsTakenByGroup : {F : Type 0} → (SnapshotBytes → Snapshot → Type 0) → NodeValue → ℕ → GroupState → GroupEvent → Result Framed (AnswerError F) → Type 0
 IsTakenByGroup stands n group s e answered =
-    IsTakenOr (λ met member. HasBrokenOff n.groups.is_well (n.groups.shows group) n.groups.own s e member met) stands n.groups group s e answered
+    IsTakenOr (λ met member. HasBrokenOff n.groups.is_well (n.groups.shows group) n.groups.fails n.groups.own s e member met) stands n.groups group s e answered
 
 -- the group has answered an event that came to it in this state, and its machine stands where it stood before
 pub record IsAnswered {F : Type 0} (rules : MachineRules) (stands : SnapshotBytes → Snapshot → Type 0)

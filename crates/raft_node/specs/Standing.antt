@@ -4,6 +4,7 @@ use Rattle.std.specs.Ordering.{nat_cmp}
 use Rattle.std.specs.BTreeMap.{get}
 use Rattle.raft_group_step.specs.StoredGroup.{StoredGroup}
 use Rattle.raft_group_step.specs.GroupState.{GroupState, Untold}
+use Rattle.raft_group_storage.specs.Keeping.{Fails}
 use Rattle.raft_laws.specs.GroupWorld.{Up}
 use Rattle.raft_framed_groups.specs.Answers.{Node, Stands}
 use Rattle.raft_machines.specs.Machine.{MachineRules}
@@ -42,15 +43,16 @@ abbrev pub running_in : {M : Type 0} {g : Ghosts M} → (M → List ℕ) → Opt
 running_in state None group = None
 running_in state (Some m) group = running_at state m.appliers group
 
--- a node in these words, where a machine's state is this, and a storage is well and shows this
-abbrev pub value_of : {M S F : Type 0} {g : Ghosts M} → (M → List ℕ) → (S → Type 0) → (S → ℕ → List StoredGroup → Type 0) → ANode M S F g → NodeValue
-value_of state is_well shows n = record {
+-- a node in these words, where a machine's state is this, and a storage is well, shows this and may have failed so
+abbrev pub value_of : {M S F : Type 0} {g : Ghosts M} → (M → List ℕ) → (S → Type 0) → (S → ℕ → List StoredGroup → Type 0) → (S → Fails) → ANode M S F g → NodeValue
+value_of state is_well shows fails n = record {
   groups = record {
     own = n.groups.id;
     has_failed = n.groups.has_failed;
     members = get nat_cmp n.groups.members;
     is_well = is_well n.groups.storage;
     shows = shows n.groups.storage;
+    fails = fails n.groups.storage;
   };
   running = running_in state n.machines;
   streams = λ peer. feeding_of (get nat_cmp n.feeders peer);

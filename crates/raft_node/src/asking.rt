@@ -83,7 +83,7 @@ impl<M: StateMachine, S: GroupStorage<Snapshot = SnapshotBytes>> Node<M, S> {
 
     // What the group's engine knows of the call.
     fn judged(&self, group: u64, call: &GroupCommand, now: u64) -> Judgement
-        ensures { (s : GroupState) → Stands (value_of M.state S.is_well S.shows self.now).groups group (Up s) → IsLawful self.now.groups.id s
+        ensures { (s : GroupState) → Stands (value_of M.state S.is_well S.shows S.fails self.now).groups group (Up s) → IsLawful self.now.groups.id s
             → IsJudged self.now.groups.id s (Call call.now now) result }
     {
         let Some(engine) = self.engine(group) else {
@@ -106,9 +106,9 @@ impl<M: StateMachine, S: GroupStorage<Snapshot = SnapshotBytes>> Node<M, S> {
         token: Option<u64>,
         now: u64,
     ) -> Fault<S::Fault>
-        ensures ended { (s : GroupState) → token_of_call call.now ≡ option_to_list token → IsAt M.rules (value_of M.state S.is_well S.shows self.old) group s → IsLawful self.old.groups.id s
-            → HasEnded M.rules S.stands (value_of M.state S.is_well S.shows self.new) group s (Call call.now now) (Err result) }
-        ensures elsewhere { StaysElse {T = Outcome} (value_of M.state S.is_well S.shows self.old) (value_of M.state S.is_well S.shows self.new) group (Err result) }
+        ensures ended { (s : GroupState) → token_of_call call.now ≡ option_to_list token → IsAt M.rules (value_of M.state S.is_well S.shows S.fails self.old) group s → IsLawful self.old.groups.id s
+            → HasEnded M.rules S.stands (value_of M.state S.is_well S.shows S.fails self.new) group s (Call call.now now) (Err result) }
+        ensures elsewhere { StaysElse {T = Outcome} (value_of M.state S.is_well S.shows S.fails self.old) (value_of M.state S.is_well S.shows S.fails self.new) group (Err result) }
         ensures fault { storage_fault_of result ≡ None }
         ensures storage { self.new.groups.storage ≡ self.old.groups.storage }
     {
@@ -130,7 +130,7 @@ impl<M: StateMachine, S: GroupStorage<Snapshot = SnapshotBytes>> Node<M, S> {
         now: u64,
     ) -> Result<Outcome, Fault<S::Fault>>
         ensures event { token_of_call call.now ≡ [] → (call.now ≡ TriggerSnapshot → ⊥)
-            → IsEvent M.rules S.stands (self.new ≡ self.old) (value_of M.state S.is_well S.shows self.old) (value_of M.state S.is_well S.shows self.new) group (Call call.now now) result }
+            → IsEvent M.rules S.stands (self.new ≡ self.old) (value_of M.state S.is_well S.shows S.fails self.old) (value_of M.state S.is_well S.shows S.fails self.new) group (Call call.now now) result }
         ensures met { S.meets self.old.groups.storage self.new.groups.storage (fault_met_by_node result) }
     {
         let answered = ask_group(self.alloc, &mut self.groups, group, call, None, now);
@@ -139,7 +139,7 @@ impl<M: StateMachine, S: GroupStorage<Snapshot = SnapshotBytes>> Node<M, S> {
 
     // The token waits for the group's next place, if the group is there.
     fn take_token(&mut self, group: u64, token: u64) -> Result<(), AllocError>
-        ensures ok { (s : GroupState) → IsAt M.rules (value_of M.state S.is_well S.shows self.old) group s → IsLawful self.old.groups.id s
+        ensures ok { (s : GroupState) → IsAt M.rules (value_of M.state S.is_well S.shows S.fails self.old) group s → IsLawful self.old.groups.id s
             → OnOk result (RunsAt M.rules (running_in M.state self.new.machines group) (record s { untold = s.untold ++ record { token = token; place = end_place s.stored } ∷ [] })) }
         ensures err { (s : GroupState) → RunsAt M.rules (running_in M.state self.old.machines group) s
             → OnErr result (RunsAt M.rules (running_in M.state self.new.machines group) s) }
@@ -178,10 +178,10 @@ impl<M: StateMachine, S: GroupStorage<Snapshot = SnapshotBytes>> Node<M, S> {
         answered: Result<Framed, AnswerError<S::Fault>>,
     ) -> Result<Outcome, Fault<S::Fault>>
         ensures ended { (s : GroupState) (e : GroupEvent) (x : Waiting) → AreOfMachine M.rules S.stands → (refusal_of self.old.groups.id s e ≡ None → IsStep self.old.groups.id s e)
-            → brought s e ≡ x ∷ [] → IsTakenByGroup S.stands (value_of M.state S.is_well S.shows self.old) group s e answered
+            → brought s e ≡ x ∷ [] → IsTakenByGroup S.stands (value_of M.state S.is_well S.shows S.fails self.old) group s e answered
             → RunsAt M.rules (running_in M.state self.old.machines group) (record s { untold = s.untold ++ x ∷ [] })
-            → HasEnded M.rules S.stands (value_of M.state S.is_well S.shows self.new) group s e result }
-        ensures elsewhere { StaysElse (value_of M.state S.is_well S.shows self.old) (value_of M.state S.is_well S.shows self.new) group result }
+            → HasEnded M.rules S.stands (value_of M.state S.is_well S.shows S.fails self.new) group s e result }
+        ensures elsewhere { StaysElse (value_of M.state S.is_well S.shows S.fails self.old) (value_of M.state S.is_well S.shows S.fails self.new) group result }
         ensures passed { IsPassedOn ⊤ answered result }
         ensures away { IsTurnedAway answered → IsPassedOn (self.new ≡ self.old) answered result }
         ensures met { (start : S) → S.meets start self.old.groups.storage (fault_met_by_answer answered) → S.meets start self.new.groups.storage (fault_met_by_node result) }
@@ -203,7 +203,7 @@ impl<M: StateMachine, S: GroupStorage<Snapshot = SnapshotBytes>> Node<M, S> {
         now: u64,
     ) -> Result<Outcome, Fault<S::Fault>>
         ensures event { token_of_call call.now ≡ token ∷ []
-            → IsEvent M.rules S.stands (self.new ≡ self.old) (value_of M.state S.is_well S.shows self.old) (value_of M.state S.is_well S.shows self.new) group (Call call.now now) result }
+            → IsEvent M.rules S.stands (self.new ≡ self.old) (value_of M.state S.is_well S.shows S.fails self.old) (value_of M.state S.is_well S.shows S.fails self.new) group (Call call.now now) result }
         ensures met { S.meets self.old.groups.storage self.new.groups.storage (fault_met_by_node result) }
     {
         if self.groups.has_failed {
@@ -218,7 +218,7 @@ impl<M: StateMachine, S: GroupStorage<Snapshot = SnapshotBytes>> Node<M, S> {
 
     // The snapshot of what is applied, where the last one doesn't have that.
     fn built(&self, group: u64) -> Result<Option<SnapshotBytes>, AllocError>
-        ensures ok { (s : GroupState) → AreOfMachine M.rules S.stands → IsAt M.rules (value_of M.state S.is_well S.shows self.now) group s → HasItsMembership s
+        ensures ok { (s : GroupState) → AreOfMachine M.rules S.stands → IsAt M.rules (value_of M.state S.is_well S.shows S.fails self.now) group s → HasItsMembership s
             → IfOk result (λ built. IsBuilt S.stands built s) }
         ensures absent { get nat_cmp self.now.groups.members group ≡ None → IsOk result }
     {
@@ -233,7 +233,7 @@ impl<M: StateMachine, S: GroupStorage<Snapshot = SnapshotBytes>> Node<M, S> {
 
     // A snapshot of what is applied is stored.
     pub(crate) fn ask_snapshot(&mut self, group: u64, now: u64) -> Result<Outcome, Fault<S::Fault>>
-        ensures event { IsEvent M.rules S.stands (self.new ≡ self.old) (value_of M.state S.is_well S.shows self.old) (value_of M.state S.is_well S.shows self.new)
+        ensures event { IsEvent M.rules S.stands (self.new ≡ self.old) (value_of M.state S.is_well S.shows S.fails self.old) (value_of M.state S.is_well S.shows S.fails self.new)
             group (Call TriggerSnapshot now) result }
         ensures met { S.meets self.old.groups.storage self.new.groups.storage (fault_met_by_node result) }
     {

@@ -52,11 +52,11 @@ impl<M: StateMachine, S: GroupStorage<Snapshot = SnapshotBytes>> Node<M, S> {
             → (result ≡ Err GroupExists) × (self.new ≡ self.old) }
         ensures stored { (st : Stored) → self.old.groups.has_failed ≡ false → get nat_cmp self.old.groups.members group ≡ None
             → S.is_well self.old.groups.storage → S.shows self.old.groups.storage group (st ∷ []) → st.present ≡ true → IsRefusedOrStops GroupExists result }
-        ensures added { self.old.groups.has_failed ≡ false → Stands (value_of M.state S.is_well S.shows self.old).groups group Absent
-            → IsAdded M.rules S.stands (value_of M.state S.is_well S.shows self.new) group result }
-        ensures elsewhere { StaysElse (value_of M.state S.is_well S.shows self.old) (value_of M.state S.is_well S.shows self.new) group result }
-        ensures refused { IsTurnedDown result → StaysAll (value_of M.state S.is_well S.shows self.old) (value_of M.state S.is_well S.shows self.new) }
-        ensures names { NamesWaiting (value_of M.state S.is_well S.shows self.old).running result }
+        ensures added { self.old.groups.has_failed ≡ false → Stands (value_of M.state S.is_well S.shows S.fails self.old).groups group Absent
+            → IsAdded M.rules S.stands (value_of M.state S.is_well S.shows S.fails self.new) group result }
+        ensures elsewhere { StaysElse (value_of M.state S.is_well S.shows S.fails self.old) (value_of M.state S.is_well S.shows S.fails self.new) group result }
+        ensures refused { IsTurnedDown result → StaysAll (value_of M.state S.is_well S.shows S.fails self.old) (value_of M.state S.is_well S.shows S.fails self.new) }
+        ensures names { NamesWaiting (value_of M.state S.is_well S.shows S.fails self.old).running result }
         ensures met { S.meets self.old.groups.storage self.new.groups.storage (fault_met_by_node result) }
     {
         if let Err(fault) = self.groups.add_group(group) {
@@ -75,8 +75,8 @@ impl<M: StateMachine, S: GroupStorage<Snapshot = SnapshotBytes>> Node<M, S> {
         call: &GroupCommand,
         now: u64,
     ) -> Result<Outcome, Fault<S::Fault>>
-        ensures event { IsEvent M.rules S.stands (self.new ≡ self.old) (value_of M.state S.is_well S.shows self.old)
-            (value_of M.state S.is_well S.shows self.new) group (Call call.now now) (without_its_why call.now result) }
+        ensures event { IsEvent M.rules S.stands (self.new ≡ self.old) (value_of M.state S.is_well S.shows S.fails self.old)
+            (value_of M.state S.is_well S.shows S.fails self.new) group (Call call.now now) (without_its_why call.now result) }
         ensures why { IfErr result (HasItsWhy call.now) }
         ensures met { S.meets self.old.groups.storage self.new.groups.storage (fault_met_by_node result) }
     {
@@ -98,7 +98,7 @@ impl<M: StateMachine, S: GroupStorage<Snapshot = SnapshotBytes>> Node<M, S> {
     /// The node stops for want of memory outside of it (own): all tokens that wait stay unknown.
     pub fn fail(&mut self) -> Fault<S::Fault>
         ensures why { IsStoppedBy Memory result }
-        ensures told { IsTold ⊥ (value_of M.state S.is_well S.shows self.old) (value_of M.state S.is_well S.shows self.new) result }
+        ensures told { IsTold ⊥ (value_of M.state S.is_well S.shows S.fails self.old) (value_of M.state S.is_well S.shows S.fails self.new) result }
         ensures met { S.meets self.old.groups.storage self.new.groups.storage (storage_fault_of result) }
     {
         self.stop(Cause::Memory)
@@ -113,8 +113,8 @@ impl<M: StateMachine, S: GroupStorage<Snapshot = SnapshotBytes>> Node<M, S> {
         membership: Membership<u64, BasicNode>,
         now: u64,
     ) -> Result<Outcome, Fault<S::Fault>>
-        ensures event { IsEvent M.rules S.stands (self.new ≡ self.old) (value_of M.state S.is_well S.shows self.old)
-            (value_of M.state S.is_well S.shows self.new) group (Call (Initialize membership) now) (without_why result) }
+        ensures event { IsEvent M.rules S.stands (self.new ≡ self.old) (value_of M.state S.is_well S.shows S.fails self.old)
+            (value_of M.state S.is_well S.shows S.fails self.new) group (Call (Initialize membership) now) (without_why result) }
         ensures why { IfErr result (HasWhy (membership_fault_of membership)) }
         ensures met { S.meets self.old.groups.storage self.new.groups.storage (fault_met_by_node result) }
     {
@@ -135,8 +135,8 @@ impl<M: StateMachine, S: GroupStorage<Snapshot = SnapshotBytes>> Node<M, S> {
         token: u64,
         now: u64,
     ) -> Result<Outcome, Fault<S::Fault>>
-        ensures event { IsEvent M.rules S.stands (self.new ≡ self.old) (value_of M.state S.is_well S.shows self.old)
-            (value_of M.state S.is_well S.shows self.new) group (Call (Propose command token) now) result }
+        ensures event { IsEvent M.rules S.stands (self.new ≡ self.old) (value_of M.state S.is_well S.shows S.fails self.old)
+            (value_of M.state S.is_well S.shows S.fails self.new) group (Call (Propose command token) now) result }
         ensures met { S.meets self.old.groups.storage self.new.groups.storage (fault_met_by_node result) }
     {
         let call = GroupCall::Propose { command, token };
@@ -146,8 +146,8 @@ impl<M: StateMachine, S: GroupStorage<Snapshot = SnapshotBytes>> Node<M, S> {
     /// The node stands for election (own). Refused as `Failed` (11), `UnknownGroup` (2),
     /// `NumberAtEnd` (10), `NotVoter` (5).
     pub fn elect(&mut self, group: u64, now: u64) -> Result<Outcome, Fault<S::Fault>>
-        ensures event { IsEvent M.rules S.stands (self.new ≡ self.old) (value_of M.state S.is_well S.shows self.old)
-            (value_of M.state S.is_well S.shows self.new) group (Call Elect now) result }
+        ensures event { IsEvent M.rules S.stands (self.new ≡ self.old) (value_of M.state S.is_well S.shows S.fails self.old)
+            (value_of M.state S.is_well S.shows S.fails self.new) group (Call Elect now) result }
         ensures met { S.meets self.old.groups.storage self.new.groups.storage (fault_met_by_node result) }
     {
         self.ask(group, &GroupCall::Elect, now)
@@ -156,8 +156,8 @@ impl<M: StateMachine, S: GroupStorage<Snapshot = SnapshotBytes>> Node<M, S> {
     /// The group's leader says to each other node that it leads on (own). Refused as `Failed` (11),
     /// `UnknownGroup` (2), `NumberAtEnd` (10), `NotLeader` (1).
     pub fn heartbeat(&mut self, group: u64, now: u64) -> Result<Outcome, Fault<S::Fault>>
-        ensures event { IsEvent M.rules S.stands (self.new ≡ self.old) (value_of M.state S.is_well S.shows self.old)
-            (value_of M.state S.is_well S.shows self.new) group (Call Heartbeat now) result }
+        ensures event { IsEvent M.rules S.stands (self.new ≡ self.old) (value_of M.state S.is_well S.shows S.fails self.old)
+            (value_of M.state S.is_well S.shows S.fails self.new) group (Call Heartbeat now) result }
         ensures met { S.meets self.old.groups.storage self.new.groups.storage (fault_met_by_node result) }
     {
         self.ask(group, &GroupCall::Heartbeat, now)
@@ -166,8 +166,8 @@ impl<M: StateMachine, S: GroupStorage<Snapshot = SnapshotBytes>> Node<M, S> {
     /// The outstanding request of the group's leader to the peer counts as failed (own). Refused as
     /// `heartbeat` is.
     pub fn lost(&mut self, group: u64, peer: u64, now: u64) -> Result<Outcome, Fault<S::Fault>>
-        ensures event { IsEvent M.rules S.stands (self.new ≡ self.old) (value_of M.state S.is_well S.shows self.old)
-            (value_of M.state S.is_well S.shows self.new) group (Call (Lost peer) now) result }
+        ensures event { IsEvent M.rules S.stands (self.new ≡ self.old) (value_of M.state S.is_well S.shows S.fails self.old)
+            (value_of M.state S.is_well S.shows S.fails self.new) group (Call (Lost peer) now) result }
         ensures met { S.meets self.old.groups.storage self.new.groups.storage (fault_met_by_node result) }
     {
         self.ask(group, &GroupCall::Lost { peer }, now)
@@ -176,8 +176,8 @@ impl<M: StateMachine, S: GroupStorage<Snapshot = SnapshotBytes>> Node<M, S> {
     /// A snapshot of what is applied is stored, if that is past the last one (own). Refused as
     /// `Failed` (11), `UnknownGroup` (2), `NumberAtEnd` (10).
     pub fn trigger_snapshot(&mut self, group: u64, now: u64) -> Result<Outcome, Fault<S::Fault>>
-        ensures event { IsEvent M.rules S.stands (self.new ≡ self.old) (value_of M.state S.is_well S.shows self.old)
-            (value_of M.state S.is_well S.shows self.new) group (Call TriggerSnapshot now) result }
+        ensures event { IsEvent M.rules S.stands (self.new ≡ self.old) (value_of M.state S.is_well S.shows S.fails self.old)
+            (value_of M.state S.is_well S.shows S.fails self.new) group (Call TriggerSnapshot now) result }
         ensures met { S.meets self.old.groups.storage self.new.groups.storage (fault_met_by_node result) }
     {
         self.ask_snapshot(group, now)
@@ -191,8 +191,8 @@ impl<M: StateMachine, S: GroupStorage<Snapshot = SnapshotBytes>> Node<M, S> {
         place: u64,
         now: u64,
     ) -> Result<Outcome, Fault<S::Fault>>
-        ensures event { IsEvent M.rules S.stands (self.new ≡ self.old) (value_of M.state S.is_well S.shows self.old)
-            (value_of M.state S.is_well S.shows self.new) group (Call (TriggerPurge place) now) result }
+        ensures event { IsEvent M.rules S.stands (self.new ≡ self.old) (value_of M.state S.is_well S.shows S.fails self.old)
+            (value_of M.state S.is_well S.shows S.fails self.new) group (Call (TriggerPurge place) now) result }
         ensures met { S.meets self.old.groups.storage self.new.groups.storage (fault_met_by_node result) }
     {
         self.ask(group, &GroupCall::TriggerPurge { place }, now)
@@ -208,8 +208,8 @@ impl<M: StateMachine, S: GroupStorage<Snapshot = SnapshotBytes>> Node<M, S> {
         token: u64,
         now: u64,
     ) -> Result<Outcome, Fault<S::Fault>>
-        ensures event { IsEvent M.rules S.stands (self.new ≡ self.old) (value_of M.state S.is_well S.shows self.old)
-            (value_of M.state S.is_well S.shows self.new) group (Call (ChangeMembership change token) now) result }
+        ensures event { IsEvent M.rules S.stands (self.new ≡ self.old) (value_of M.state S.is_well S.shows S.fails self.old)
+            (value_of M.state S.is_well S.shows S.fails self.new) group (Call (ChangeMembership change token) now) result }
         ensures met { S.meets self.old.groups.storage self.new.groups.storage (fault_met_by_node result) }
     {
         let call = GroupCall::ChangeMembership { change, token };

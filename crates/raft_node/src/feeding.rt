@@ -88,8 +88,8 @@ struct Step<F> {
 impl<M: StateMachine, S: GroupStorage<Snapshot = SnapshotBytes>> Node<M, S> {
     // The peer's frame comes to its group.
     fn take_frame(&mut self, peer: u64, frame: &Frame, now: u64) -> Result<Outcome, Fault<S::Fault>>
-        ensures frame { IsFrame M.rules S.stands (self.new ≡ self.old) (value_of M.state S.is_well S.shows self.old)
-            (value_of M.state S.is_well S.shows self.new) peer frame.now now result }
+        ensures frame { IsFrame M.rules S.stands (self.new ≡ self.old) (value_of M.state S.is_well S.shows S.fails self.old)
+            (value_of M.state S.is_well S.shows S.fails self.new) peer frame.now now result }
         ensures met { S.meets self.old.groups.storage self.new.groups.storage (fault_met_by_node result) }
     {
         let answered = receive_frame(self.alloc, &mut self.groups, peer, frame, now);
@@ -105,7 +105,7 @@ impl<M: StateMachine, S: GroupStorage<Snapshot = SnapshotBytes>> Node<M, S> {
         piece: &[u8],
         now: u64,
     ) -> Step<S::Fault>
-        ensures next { TakesNext M.rules S.stands (value_of M.state S.is_well S.shows self.old) (value_of M.state S.is_well S.shows self.new) peer now piece.now result.used result.outcome }
+        ensures next { TakesNext M.rules S.stands (value_of M.state S.is_well S.shows S.fails self.old) (value_of M.state S.is_well S.shows S.fails self.new) peer now piece.now result.used result.outcome }
         ensures within { result.used ≤ length piece.now }
         ensures progress { IfOk result.outcome (λ came. IfSome came (λ o. 0 < result.used)) }
         ensures items { outcomes.new.items ≡ outcomes.old.items }
@@ -143,7 +143,7 @@ impl<M: StateMachine, S: GroupStorage<Snapshot = SnapshotBytes>> Node<M, S> {
 
     // The frames of a piece come to their groups, at a node that hasn't failed.
     fn feed_frames(&mut self, peer: u64, piece: &[u8], now: u64) -> Fed<S::Fault>
-        ensures frames { FeedsTo (value_of M.state S.is_well S.shows) M.rules S.stands peer now result.outcomes.items result.fault self.old self.new piece.now result.used }
+        ensures frames { FeedsTo (value_of M.state S.is_well S.shows S.fails) M.rules S.stands peer now result.outcomes.items result.fault self.old self.new piece.now result.used }
         ensures met { S.meets self.old.groups.storage self.new.groups.storage (option_and_then storage_fault_of result.fault) }
     {
         let mut outcomes = Vec::new(self.alloc);
@@ -187,14 +187,14 @@ impl<M: StateMachine, S: GroupStorage<Snapshot = SnapshotBytes>> Node<M, S> {
     pub fn feed(&mut self, peer: u64, piece: &[u8], now: u64) -> Fed<S::Fault>
         ensures failed { self.old.groups.has_failed ≡ true → (result.outcomes.items ≡ []) × (result.fault ≡ Some Failed) × (result.used ≡ 0) × (self.new ≡ self.old) }
         ensures frames { self.old.groups.has_failed ≡ false
-            → FeedsTo (value_of M.state S.is_well S.shows) M.rules S.stands peer now result.outcomes.items result.fault self.old self.new piece.now result.used }
+            → FeedsTo (value_of M.state S.is_well S.shows S.fails) M.rules S.stands peer now result.outcomes.items result.fault self.old self.new piece.now result.used }
         ensures whole { (frame : Spoken) → self.old.groups.has_failed ≡ false → (feeding_of (get nat_cmp self.old.feeders peer)).failed ≡ false → FitsFrame frame
-            → 0 < length piece.now → so_far (value_of M.state S.is_well S.shows self.old) peer piece.now ≡ spelled_frame frame
-            → FeedsWhole M.rules S.stands (value_of M.state S.is_well S.shows self.old) (value_of M.state S.is_well S.shows self.new) peer now
+            → 0 < length piece.now → so_far (value_of M.state S.is_well S.shows S.fails self.old) peer piece.now ≡ spelled_frame frame
+            → FeedsWhole M.rules S.stands (value_of M.state S.is_well S.shows S.fails self.old) (value_of M.state S.is_well S.shows S.fails self.new) peer now
             frame piece.now result.outcomes.items result.fault result.used }
         ensures part { (frame : Spoken) (more : List ℕ) → self.old.groups.has_failed ≡ false → (feeding_of (get nat_cmp self.old.feeders peer)).failed ≡ false → FitsFrame frame
-            → 0 < length more → so_far (value_of M.state S.is_well S.shows self.old) peer piece.now ++ more ≡ spelled_frame frame
-            → FeedsPart M.rules S.stands (value_of M.state S.is_well S.shows self.old) (value_of M.state S.is_well S.shows self.new) peer now
+            → 0 < length more → so_far (value_of M.state S.is_well S.shows S.fails self.old) peer piece.now ++ more ≡ spelled_frame frame
+            → FeedsPart M.rules S.stands (value_of M.state S.is_well S.shows S.fails self.old) (value_of M.state S.is_well S.shows S.fails self.new) peer now
             piece.now result.outcomes.items result.fault result.used }
         ensures met { S.meets self.old.groups.storage self.new.groups.storage (option_and_then storage_fault_of result.fault) }
     {

@@ -31,12 +31,12 @@ impl<M: StateMachine> Machines<M> {
     ghost use Rattle.std.specs.Option.{option_copied};
     ghost use Rattle.std.specs.Ordering.{nat_cmp};
     ghost use Rattle.std.specs.BTreeMap.{get};
-    ghost use Rattle.raft_group_step.specs.StoredGroup.{end_place};
+    ghost use Rattle.raft_group_step.specs.StoredGroup.{StoredGroup as Stored, end_place};
     ghost use Rattle.raft_group_step.specs.GroupState.{GroupState, Untold as Waiting};
     ghost use Rattle.raft_group_step.specs.GroupEvent.{GroupEvent};
     ghost use Rattle.raft_group_step.specs.GroupStep.{group_step};
     ghost use Rattle.std.specs.Result.{result_err};
-    ghost use Rattle.raft_group_storage.specs.Keeping.{KeepsAll};
+    ghost use Rattle.raft_group_storage.specs.Keeping.{FailsAnyhow, KeepsAll};
     ghost use Rattle.raft_member.specs.Member.{IsIdle, IsUp};
     ghost use Rattle.raft_machines.specs.Telling.{untold_of};
     ghost use Rattle.raft_applier.specs.Applied.{HasGone};
@@ -131,6 +131,7 @@ impl<M: StateMachine> Machines<M> {
         ensures err { IfSome result (λ r. OnErr r
             (waiting_of (running_at M.state self.new.appliers group) ≡ waiting_of (running_at M.state self.old.appliers group))) }
         ensures others { (other : ℕ) → (other ≡ group → ⊥) → get nat_cmp self.new.appliers other ≡ get nat_cmp self.old.appliers other }
+        ensures failed { (s : Stored) → S.is_well storage.old → S.shows storage.old group (s ∷ []) → IfSome result (λ r. OnErr r (FailsAnyhow (S.fails storage.new))) }
         ensures kept { KeepsAll (S.shows storage.old) (S.shows storage.new) }
         ensures absent { S.is_well storage.old → IfNone result (S.is_well storage.new) }
         ensures met { S.meets storage.old storage.new (option_and_then result_err result) }

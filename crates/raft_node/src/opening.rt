@@ -1,5 +1,5 @@
 //! A node is opened over its storage.
-ghost use Rattle.std.specs.Prelude.{◌≡◌, [], ℕ, IfErr, IfOk, MatchResult, None, OnErr, OnOk, false, true};
+ghost use Rattle.std.specs.Prelude.{◌≡◌, [], ◌∷◌, ℕ, IfErr, IfOk, MatchResult, None, OnErr, OnOk, false, true};
 ghost use Rattle.std.specs.List.{AllZip};
 ghost use Rattle.std.specs.Ordering.{nat_cmp};
 ghost use Rattle.std.specs.BTreeMap.{get};
@@ -8,7 +8,7 @@ ghost use Rattle.raft_group_step.specs.GroupEvent.{Open};
 ghost use Rattle.raft_group_step.specs.GroupState.{state_of};
 ghost use Rattle.raft_group_step.specs.GroupStep.{group_step};
 ghost use Rattle.std.specs.Result.{result_err};
-ghost use Rattle.raft_group_storage.specs.Keeping.{KeepsAll, KeepsOthers};
+ghost use Rattle.raft_group_storage.specs.Keeping.{FailsAnyhow, KeepsAll, KeepsOthers};
 ghost use Rattle.raft_laws.specs.GroupWorld.{Up};
 ghost use Rattle.raft_applier.specs.Following.{AreOfMachine, HasWholeSnapshot};
 ghost use Rattle.raft_framed_groups.specs.Answers.{Stands};
@@ -53,11 +53,13 @@ impl<M: StateMachine, S: GroupStorage<Snapshot = SnapshotBytes>> Node<M, S> {
     // The machine of a group that was opened goes to what is applied.
     fn seat_opened(&mut self, group: u64) -> Result<(), S::Fault>
         ensures ok { (st : Stored) → AreOfMachine M.rules S.stands
-            → Stands (value_of M.state S.is_well S.shows self.old).groups group (Up (group_step self.old.groups.id (state_of st) Open).state)
+            → Stands (value_of M.state S.is_well S.shows S.fails self.old).groups group (Up (group_step self.old.groups.id (state_of st) Open).state)
             → HasWholeSnapshot (group_step self.old.groups.id (state_of st) Open).state
-            → OnOk result (IsAt M.rules (value_of M.state S.is_well S.shows self.new) group (group_step self.old.groups.id (state_of st) Open).state) }
+            → OnOk result (IsAt M.rules (value_of M.state S.is_well S.shows S.fails self.new) group (group_step self.old.groups.id (state_of st) Open).state) }
         ensures groups { self.new.groups ≡ record self.old.groups { storage = self.new.groups.storage } }
         ensures feeders { self.new.feeders ≡ self.old.feeders }
+        ensures failed { (s : Stored) → S.is_well self.old.groups.storage → S.shows self.old.groups.storage group (s ∷ [])
+            → OnErr result (FailsAnyhow (S.fails self.new.groups.storage)) }
         ensures kept { KeepsAll (S.shows self.old.groups.storage) (S.shows self.new.groups.storage) }
         ensures others { (other : ℕ) → (other ≡ group → ⊥) → running_in M.state self.new.machines other ≡ running_in M.state self.old.machines other }
         ensures err { (other : ℕ) → OnErr result (running_in M.state self.new.machines other ≡ running_in M.state self.old.machines other) }
@@ -83,8 +85,8 @@ impl<M: StateMachine, S: GroupStorage<Snapshot = SnapshotBytes>> Node<M, S> {
         ensures unknown { IfOk result (λ o. o.unknown.items ≡ []) }
         ensures same { OnOk result (self.new ≡ self.old) }
         ensures id { self.new.groups.id ≡ self.old.groups.id }
-        ensures names { IfErr result (StopsNaming (value_of M.state S.is_well S.shows self.old).running) }
-        ensures err { IfErr result (IsTold (self.new ≡ self.old) (value_of M.state S.is_well S.shows self.old) (value_of M.state S.is_well S.shows self.new)) }
+        ensures names { IfErr result (StopsNaming (value_of M.state S.is_well S.shows S.fails self.old).running) }
+        ensures err { IfErr result (IsTold (self.new ≡ self.old) (value_of M.state S.is_well S.shows S.fails self.old) (value_of M.state S.is_well S.shows S.fails self.new)) }
         ensures cause { fault_met_by_node result ≡ None }
         ensures storage { self.new.groups.storage ≡ self.old.groups.storage }
     {
@@ -102,8 +104,8 @@ impl<M: StateMachine, S: GroupStorage<Snapshot = SnapshotBytes>> Node<M, S> {
     // A group that is stored is opened.
     fn open_group(&mut self, group: u64) -> Result<Outcome, Fault<S::Fault>>
         ensures opened { (st : Stored) → AreOfMachine M.rules S.stands → self.old.groups.has_failed ≡ false → S.is_well self.old.groups.storage
-            → IsUntouched (value_of M.state S.is_well S.shows self.old) group st → st.present ≡ true → IsReopened self.old.groups.id st
-            → OpensGroup M.rules S.stands (value_of M.state S.is_well S.shows self.old) (value_of M.state S.is_well S.shows self.new) group st result }
+            → IsUntouched (value_of M.state S.is_well S.shows S.fails self.old) group st → st.present ≡ true → IsReopened self.old.groups.id st
+            → OpensGroup M.rules S.stands (value_of M.state S.is_well S.shows S.fails self.old) (value_of M.state S.is_well S.shows S.fails self.new) group st result }
         ensures members { (other : ℕ) → (other ≡ group → ⊥) → get nat_cmp self.new.groups.members other ≡ get nat_cmp self.old.groups.members other }
         ensures running { (other : ℕ) → (other ≡ group → ⊥) → OnOk result (running_in M.state self.new.machines other ≡ running_in M.state self.old.machines other) }
         ensures kept { KeepsOthers (S.shows self.old.groups.storage) (S.shows self.new.groups.storage) group }
@@ -137,10 +139,10 @@ impl<M: StateMachine, S: GroupStorage<Snapshot = SnapshotBytes>> Node<M, S> {
 
     // The groups that are stored are opened, in the order of these ids.
     fn open_each(&mut self, groups: &[u64]) -> Result<Vec<Outcome>, Fault<S::Fault>>
-        ensures opened { (kept : ℕ → Stored) → AreOfMachine M.rules S.stands → IsBegun (value_of M.state S.is_well S.shows self.old) kept → AreThere kept groups.now
-            → IfOk result (λ outcomes. HasOpened M.rules S.stands kept (value_of M.state S.is_well S.shows self.new) outcomes.items) }
-        ensures stopped { (kept : ℕ → Stored) → AreOfMachine M.rules S.stands → IsBegun (value_of M.state S.is_well S.shows self.old) kept → AreThere kept groups.now
-            → IfErr result (HasNotOpened self.old.groups.id kept (S.shows self.new.groups.storage)) }
+        ensures opened { (kept : ℕ → Stored) → AreOfMachine M.rules S.stands → IsBegun (value_of M.state S.is_well S.shows S.fails self.old) kept → AreThere kept groups.now
+            → IfOk result (λ outcomes. HasOpened M.rules S.stands kept (value_of M.state S.is_well S.shows S.fails self.new) outcomes.items) }
+        ensures stopped { (kept : ℕ → Stored) → AreOfMachine M.rules S.stands → IsBegun (value_of M.state S.is_well S.shows S.fails self.old) kept → AreThere kept groups.now
+            → IfErr result (HasNotOpened self.old.groups.id kept (S.shows self.new.groups.storage) (S.fails self.new.groups.storage)) }
         ensures id { self.new.groups.id ≡ self.old.groups.id }
         ensures going { OnOk result (self.new.groups.has_failed ≡ self.old.groups.has_failed) }
         ensures feeders { OnOk result (self.new.feeders ≡ self.old.feeders) }
@@ -161,10 +163,10 @@ impl<M: StateMachine, S: GroupStorage<Snapshot = SnapshotBytes>> Node<M, S> {
 
     // All groups that are stored are opened, by rising id.
     fn open_groups(&mut self) -> Result<Vec<Outcome>, Fault<S::Fault>>
-        ensures opened { (kept : ℕ → Stored) → AreOfMachine M.rules S.stands → IsBegun (value_of M.state S.is_well S.shows self.old) kept
-            → IfOk result (λ outcomes. HasOpened M.rules S.stands kept (value_of M.state S.is_well S.shows self.new) outcomes.items) }
-        ensures stopped { (kept : ℕ → Stored) → AreOfMachine M.rules S.stands → IsBegun (value_of M.state S.is_well S.shows self.old) kept
-            → IfErr result (HasNotOpened self.old.groups.id kept (S.shows self.new.groups.storage)) }
+        ensures opened { (kept : ℕ → Stored) → AreOfMachine M.rules S.stands → IsBegun (value_of M.state S.is_well S.shows S.fails self.old) kept
+            → IfOk result (λ outcomes. HasOpened M.rules S.stands kept (value_of M.state S.is_well S.shows S.fails self.new) outcomes.items) }
+        ensures stopped { (kept : ℕ → Stored) → AreOfMachine M.rules S.stands → IsBegun (value_of M.state S.is_well S.shows S.fails self.old) kept
+            → IfErr result (HasNotOpened self.old.groups.id kept (S.shows self.new.groups.storage) (S.fails self.new.groups.storage)) }
         ensures id { self.new.groups.id ≡ self.old.groups.id }
         ensures going { OnOk result (self.new.groups.has_failed ≡ self.old.groups.has_failed) }
         ensures feeders { OnOk result (self.new.feeders ≡ self.old.feeders) }
@@ -184,9 +186,9 @@ impl<M: StateMachine, S: GroupStorage<Snapshot = SnapshotBytes>> Node<M, S> {
     /// committed. Without success (16) the storage is handed back: it is to be closed and opened anew.
     pub fn open(alloc: Global, id: u64, storage: S) -> Result<Opened<M, S>, NotOpened<S>>
         ensures opened { (kept : ℕ → Stored) → AreOfMachine M.rules S.stands → Keeps id (S.is_well storage) (S.shows storage) kept
-            → IfOk result (λ o. HasOpened M.rules S.stands kept (value_of M.state S.is_well S.shows o.node) o.outcomes.items) }
+            → IfOk result (λ o. HasOpened M.rules S.stands kept (value_of M.state S.is_well S.shows S.fails o.node) o.outcomes.items) }
         ensures stopped { (kept : ℕ → Stored) → AreOfMachine M.rules S.stands → Keeps id (S.is_well storage) (S.shows storage) kept
-            → IfErr result (λ n. HasNotOpened id kept (S.shows n.storage) n.fault) }
+            → IfErr result (λ n. HasNotOpened id kept (S.shows n.storage) (S.fails n.storage) n.fault) }
         ensures id { IfOk result (λ o. o.node.groups.id ≡ id) }
         ensures going { IfOk result (λ o. o.node.groups.has_failed ≡ false) }
         ensures streams { (peer : ℕ) → IfOk result (λ o. feeding_of (get nat_cmp o.node.feeders peer) ≡ fresh) }

@@ -152,7 +152,7 @@ impl<M: StateMachine, S: GroupStorage<Snapshot = SnapshotBytes>> Node<M, S> {
 
     /// What part the node plays in the group.
     pub fn role(&self, group: u64) -> Option<ServerState>
-        ensures { TellsOf (value_of M.state S.is_well S.shows self.now) group result
+        ensures { TellsOf (value_of M.state S.is_well S.shows S.fails self.now) group result
             (λ s. Some (part_in s.role (is_voter_in (membership_in_force s.stored) self.now.groups.id))) }
     {
         Some(part_of(self.going_engine(group)?))
@@ -160,7 +160,7 @@ impl<M: StateMachine, S: GroupStorage<Snapshot = SnapshotBytes>> Node<M, S> {
 
     /// The group's leader, as far as this node knows: the node of its vote, once that is committed.
     pub fn leader(&self, group: u64) -> Option<u64>
-        ensures { TellsOf (value_of M.state S.is_well S.shows self.now) group result (λ s. known_leader s.stored.vote) }
+        ensures { TellsOf (value_of M.state S.is_well S.shows S.fails self.now) group result (λ s. known_leader s.stored.vote) }
     {
         let vote = self.going_engine(group)?.state.state.vote.get();
         vote.committed.then_some(vote.leader_id.node_id)
@@ -185,7 +185,7 @@ impl<M: StateMachine, S: GroupStorage<Snapshot = SnapshotBytes>> Node<M, S> {
 
     /// The log id of the last entry of the group's log, purged or not.
     pub fn last_log_id(&self, group: u64) -> Option<LogId<u64>>
-        ensures { TellsOf (value_of M.state S.is_well S.shows self.now) group result (λ s. last_id s.stored) }
+        ensures { TellsOf (value_of M.state S.is_well S.shows S.fails self.now) group result (λ s. last_id s.stored) }
     {
         self.going_engine(group)?.state.last_log_id()
     }
@@ -195,7 +195,7 @@ impl<M: StateMachine, S: GroupStorage<Snapshot = SnapshotBytes>> Node<M, S> {
         ensures failed { self.now.groups.has_failed ≡ true → result ≡ None }
         ensures absent { get nat_cmp self.now.groups.members group ≡ None → result ≡ None }
         ensures up { (s : GroupState) → self.now.groups.has_failed ≡ false
-            → Stands (value_of M.state S.is_well S.shows self.now).groups group (Up s) → end_place s.stored < 2 ^ 64 → result ≡ next_entry_id s }
+            → Stands (value_of M.state S.is_well S.shows S.fails self.now).groups group (Up s) → end_place s.stored < 2 ^ 64 → result ≡ next_entry_id s }
     {
         let engine = self.going_engine(group)?;
         let facts = facts_of(self.groups.id, engine);
@@ -211,7 +211,7 @@ impl<M: StateMachine, S: GroupStorage<Snapshot = SnapshotBytes>> Node<M, S> {
     /// The membership in force with its addresses, lent, committed or not, with the log id of its
     /// entry (own); none where no entry has one.
     pub fn membership(&self, group: u64) -> Option<&EffectiveMembership<u64, BasicNode>>
-        ensures { TellsOf (value_of M.state S.is_well S.shows self.now) group (option_copied result)
+        ensures { TellsOf (value_of M.state S.is_well S.shows S.fails self.now) group (option_copied result)
             (λ s. option_map logged_as_effective (membership_in_force s.stored)) }
     {
         self.going_engine(group)?.state.membership()
@@ -220,7 +220,7 @@ impl<M: StateMachine, S: GroupStorage<Snapshot = SnapshotBytes>> Node<M, S> {
     /// The moment, in ticks, at which the group's vote was stored or last renewed since the opening:
     /// by an own election, a granted vote, or a leader that was heard of (own).
     pub fn renewed(&self, group: u64) -> Option<u64>
-        ensures { TellsOf (value_of M.state S.is_well S.shows self.now) group result (λ s. s.renewed) }
+        ensures { TellsOf (value_of M.state S.is_well S.shows S.fails self.now) group result (λ s. s.renewed) }
     {
         self.going_engine(group)?.state.state.vote.utime()
     }
@@ -229,7 +229,7 @@ impl<M: StateMachine, S: GroupStorage<Snapshot = SnapshotBytes>> Node<M, S> {
     /// lease of a committed vote is over then, as far as this node has heard of its leader, so this
     /// node would grant another its vote, too. None where 64 bits have no such moment.
     pub fn may_elect_from(&self, group: u64) -> Option<u64>
-        ensures moment { TellsOf (value_of M.state S.is_well S.shows self.now) group result (λ s. moment_of (free_from s)) }
+        ensures moment { TellsOf (value_of M.state S.is_well S.shows S.fails self.now) group result (λ s. moment_of (free_from s)) }
         ensures lease { (s : GroupState) (now : ℕ) → is_under_lease (record s { now = now }) ≡ nat_lt now (free_from s) }
     {
         free_moment(self.going_engine(group)?)
@@ -237,7 +237,7 @@ impl<M: StateMachine, S: GroupStorage<Snapshot = SnapshotBytes>> Node<M, S> {
 
     /// The last log id that the group's snapshot covers (own).
     pub fn snapshot_last(&self, group: u64) -> Option<LogId<u64>>
-        ensures { TellsOf (value_of M.state S.is_well S.shows self.now) group result (λ s. snapshot_last s.stored) }
+        ensures { TellsOf (value_of M.state S.is_well S.shows S.fails self.now) group result (λ s. snapshot_last s.stored) }
     {
         self.going_engine(group)?
             .state
@@ -248,7 +248,7 @@ impl<M: StateMachine, S: GroupStorage<Snapshot = SnapshotBytes>> Node<M, S> {
 
     /// The last log id that is purged of the group's log (own).
     pub fn last_purged_log_id(&self, group: u64) -> Option<LogId<u64>>
-        ensures { TellsOf (value_of M.state S.is_well S.shows self.now) group result (λ s. s.stored.purged) }
+        ensures { TellsOf (value_of M.state S.is_well S.shows S.fails self.now) group result (λ s. s.stored.purged) }
     {
         self.going_engine(group)?
             .state
@@ -260,7 +260,7 @@ impl<M: StateMachine, S: GroupStorage<Snapshot = SnapshotBytes>> Node<M, S> {
     /// What the node has that leads the group: its vote, the end of its log, and what it took over (own).
     /// None where the node doesn't lead it.
     pub fn leading(&self, group: u64) -> Option<Leading>
-        ensures { TellsOf (value_of M.state S.is_well S.shows self.now) group result (λ s. leading_of s) }
+        ensures { TellsOf (value_of M.state S.is_well S.shows S.fails self.now) group result (λ s. leading_of s) }
     {
         leading_by(self.going_engine(group)?)
     }
@@ -271,7 +271,7 @@ impl<M: StateMachine, S: GroupStorage<Snapshot = SnapshotBytes>> Node<M, S> {
         ensures failed { self.now.groups.has_failed ≡ true → result ≡ false }
         ensures absent { get nat_cmp self.now.groups.members group ≡ None → result ≡ false }
         ensures up { (s : GroupState) → self.now.groups.has_failed ≡ false
-            → Stands (value_of M.state S.is_well S.shows self.now).groups group (Up s)
+            → Stands (value_of M.state S.is_well S.shows S.fails self.now).groups group (Up s)
             → result ≡ is_some (outstanding_to peer s.role) }
     {
         match self.going_engine(group) {

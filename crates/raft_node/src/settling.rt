@@ -1,10 +1,11 @@
 //! What a group's answer becomes at its node.
-ghost use Rattle.std.specs.Prelude.{◌≡◌, ℕ, IfOk, OnErr, OnOk, IfNone, IfSome, IsSomeAnd, None, option_and_then};
+ghost use Rattle.std.specs.Prelude.{◌≡◌, [], ◌∷◌, ℕ, IfOk, OnErr, OnOk, IfNone, IfSome, IsSomeAnd, None, option_and_then};
 ghost use Rattle.raft_group_step.specs.GroupEvent.{GroupEvent};
 ghost use Rattle.raft_group_step.specs.GroupState.{GroupState};
+ghost use Rattle.raft_group_step.specs.StoredGroup.{StoredGroup as Stored};
 ghost use Rattle.raft_group_step.specs.Refusal.{refusal_of};
 ghost use Rattle.std.specs.Result.{result_err};
-ghost use Rattle.raft_group_storage.specs.Keeping.{KeepsAll};
+ghost use Rattle.raft_group_storage.specs.Keeping.{FailsAnyhow, KeepsAll};
 ghost use Rattle.raft_groups.specs.Faults.{fault_of_groups};
 ghost use Rattle.raft_framed_groups.specs.Answers.{fault_met_by_answer, fault_of_answer};
 ghost use Rattle.raft_applier.specs.Following.{AreOfMachine, IsStep};
@@ -29,8 +30,8 @@ impl<M: StateMachine, S: GroupStorage<Snapshot = SnapshotBytes>> Node<M, S> {
     // Why the groups don't take an event, as the node answers it.
     pub(crate) fn groups_fault(&mut self, fault: GroupsFault<S::Fault>) -> Fault<S::Fault>
         ensures why { IsGroupsFault fault result }
-        ensures told { IsTold (self.new ≡ self.old) (value_of M.state S.is_well S.shows self.old)
-            (value_of M.state S.is_well S.shows self.new) result }
+        ensures told { IsTold (self.new ≡ self.old) (value_of M.state S.is_well S.shows S.fails self.old)
+            (value_of M.state S.is_well S.shows S.fails self.new) result }
         ensures cause { storage_fault_of result ≡ fault_of_groups fault }
         ensures storage { self.new.groups.storage ≡ self.old.groups.storage }
     {
@@ -45,8 +46,8 @@ impl<M: StateMachine, S: GroupStorage<Snapshot = SnapshotBytes>> Node<M, S> {
     // Why bytes aren't taken: want of memory stops the node.
     pub(crate) fn stream_fault(&mut self, error: FrameError) -> Fault<S::Fault>
         ensures why { IsStreamFault error result }
-        ensures told { IsTold (self.new ≡ self.old) (value_of M.state S.is_well S.shows self.old)
-            (value_of M.state S.is_well S.shows self.new) result }
+        ensures told { IsTold (self.new ≡ self.old) (value_of M.state S.is_well S.shows S.fails self.old)
+            (value_of M.state S.is_well S.shows S.fails self.new) result }
         ensures cause { storage_fault_of result ≡ None }
         ensures storage { self.new.groups.storage ≡ self.old.groups.storage }
     {
@@ -59,8 +60,8 @@ impl<M: StateMachine, S: GroupStorage<Snapshot = SnapshotBytes>> Node<M, S> {
     // What an event sends has no frame.
     pub(crate) fn unsent(&mut self, error: FrameError) -> Fault<S::Fault>
         ensures why { IsStoppedBy (cause_of_unsent error) result }
-        ensures told { IsTold (self.new ≡ self.old) (value_of M.state S.is_well S.shows self.old)
-            (value_of M.state S.is_well S.shows self.new) result }
+        ensures told { IsTold (self.new ≡ self.old) (value_of M.state S.is_well S.shows S.fails self.old)
+            (value_of M.state S.is_well S.shows S.fails self.new) result }
         ensures cause { storage_fault_of result ≡ None }
         ensures storage { self.new.groups.storage ≡ self.old.groups.storage }
     {
@@ -73,8 +74,8 @@ impl<M: StateMachine, S: GroupStorage<Snapshot = SnapshotBytes>> Node<M, S> {
     // Why there is no answer, as the node tells it.
     pub(crate) fn answer_fault(&mut self, error: AnswerError<S::Fault>) -> Fault<S::Fault>
         ensures why { IsAnswerFault error result }
-        ensures told { IsTold (self.new ≡ self.old) (value_of M.state S.is_well S.shows self.old)
-            (value_of M.state S.is_well S.shows self.new) result }
+        ensures told { IsTold (self.new ≡ self.old) (value_of M.state S.is_well S.shows S.fails self.old)
+            (value_of M.state S.is_well S.shows S.fails self.new) result }
         ensures cause { storage_fault_of result ≡ fault_of_answer error }
         ensures storage { self.new.groups.storage ≡ self.old.groups.storage }
     {
@@ -89,10 +90,12 @@ impl<M: StateMachine, S: GroupStorage<Snapshot = SnapshotBytes>> Node<M, S> {
     // The group's machine catches up with its member, if both are there.
     fn catch_up(&mut self, group: u64) -> Option<Result<Progress, S::Fault>>
         ensures ok { (s : GroupState) (e : GroupEvent) → AreOfMachine M.rules S.stands → IsStep self.old.groups.id s e
-            → IsBehind M.rules (value_of M.state S.is_well S.shows self.old) group s e
-            → IsSomeAnd result (λ r. IfOk r (λ progress. HasCaughtUp M.rules (value_of M.state S.is_well S.shows self.new) group s e progress)) }
+            → IsBehind M.rules (value_of M.state S.is_well S.shows S.fails self.old) group s e
+            → IsSomeAnd result (λ r. IfOk r (λ progress. HasCaughtUp M.rules (value_of M.state S.is_well S.shows S.fails self.new) group s e progress)) }
         ensures groups { self.new.groups ≡ record self.old.groups { storage = self.new.groups.storage } }
         ensures feeders { self.new.feeders ≡ self.old.feeders }
+        ensures failed { (s : Stored) → S.is_well self.old.groups.storage → S.shows self.old.groups.storage group (s ∷ [])
+            → IfSome result (λ r. OnErr r (FailsAnyhow (S.fails self.new.groups.storage))) }
         ensures kept { KeepsAll (S.shows self.old.groups.storage) (S.shows self.new.groups.storage) }
         ensures well { S.is_well self.old.groups.storage → IfSome result (λ r. OnOk r (S.is_well self.new.groups.storage)) }
         ensures others { (other : ℕ) → (other ≡ group → ⊥) → running_in M.state self.new.machines other ≡ running_in M.state self.old.machines other }
@@ -117,9 +120,9 @@ impl<M: StateMachine, S: GroupStorage<Snapshot = SnapshotBytes>> Node<M, S> {
         frames: Vec<GroupFrame>,
     ) -> Result<Outcome, Fault<S::Fault>>
         ensures ended { (s : GroupState) (e : GroupEvent) → AreOfMachine M.rules S.stands → IsStep self.old.groups.id s e
-            → IsBehind M.rules (value_of M.state S.is_well S.shows self.old) group s e
-            → FollowsTo M.rules (value_of M.state S.is_well S.shows self.old) (value_of M.state S.is_well S.shows self.new) group s e frames.items result }
-        ensures elsewhere { StaysElse (value_of M.state S.is_well S.shows self.old) (value_of M.state S.is_well S.shows self.new) group result }
+            → IsBehind M.rules (value_of M.state S.is_well S.shows S.fails self.old) group s e
+            → FollowsTo M.rules (value_of M.state S.is_well S.shows S.fails self.old) (value_of M.state S.is_well S.shows S.fails self.new) group s e frames.items result }
+        ensures elsewhere { StaysElse (value_of M.state S.is_well S.shows S.fails self.old) (value_of M.state S.is_well S.shows S.fails self.new) group result }
         ensures met { S.meets self.old.groups.storage self.new.groups.storage (fault_met_by_node result) }
     {
         match self.catch_up(group) {
@@ -141,9 +144,9 @@ impl<M: StateMachine, S: GroupStorage<Snapshot = SnapshotBytes>> Node<M, S> {
         answered: Result<Framed, AnswerError<S::Fault>>,
     ) -> Result<Outcome, Fault<S::Fault>>
         ensures ended { (s : GroupState) (e : GroupEvent) → AreOfMachine M.rules S.stands → (refusal_of self.old.groups.id s e ≡ None → IsStep self.old.groups.id s e)
-            → IsAnswered M.rules S.stands (value_of M.state S.is_well S.shows self.old) group s e answered
-            → HasEnded M.rules S.stands (value_of M.state S.is_well S.shows self.new) group s e result }
-        ensures elsewhere { StaysElse (value_of M.state S.is_well S.shows self.old) (value_of M.state S.is_well S.shows self.new) group result }
+            → IsAnswered M.rules S.stands (value_of M.state S.is_well S.shows S.fails self.old) group s e answered
+            → HasEnded M.rules S.stands (value_of M.state S.is_well S.shows S.fails self.new) group s e result }
+        ensures elsewhere { StaysElse (value_of M.state S.is_well S.shows S.fails self.old) (value_of M.state S.is_well S.shows S.fails self.new) group result }
         ensures passed { IsPassedOn (self.new ≡ self.old) answered result }
         ensures met { (start : S) → S.meets start self.old.groups.storage (fault_met_by_answer answered) → S.meets start self.new.groups.storage (fault_met_by_node result) }
     {

@@ -13,7 +13,7 @@ use Rattle.raft_group_step.specs.GroupStep.{group_step}
 use Rattle.raft_group_step.specs.Opening.{opening_step}
 use Rattle.raft_group_step.specs.StepResult.{StepResult, tokens_of}
 use Rattle.raft_group_step.specs.StoredGroup.{Snapshot, StoredGroup}
-use Rattle.raft_group_storage.specs.Keeping.{Shows}
+use Rattle.raft_group_storage.specs.Keeping.{Fails, Shows}
 use Rattle.raft_messages.specs.declared.memberships.SnapshotBytes.{SnapshotBytes}
 use Rattle.raft_laws.specs.GroupWorld.{Down, NodeState, Up}
 use Rattle.raft_laws.specs.Stop.{stopped_after}
@@ -213,8 +213,8 @@ closed_openings_lead rules stands n outcomes ids history olds kept names down op
 
 -- ---- an opening that stopped
 
-pub left_openings_lead : {F : Type 0} (rules : MachineRules) (own : ℕ) (shows : Shows) (why : Fault F) → LeftOpeningsLead rules own shows why
-left_openings_lead rules own shows why ids history olds kept names down stopped nobody h =
+pub left_openings_lead : {F : Type 0} (rules : MachineRules) (own : ℕ) (shows : Shows) (fails : Fails) (why : Fault F) → LeftOpeningsLead rules own shows fails why
+left_openings_lead rules own shows fails why ids history olds kept names down stopped nobody h =
     ⊎_elim
     (λ there.
     let left = stopped.left h there in

@@ -36,7 +36,7 @@ pub left_so : (rules : MachineRules) (old new : NodeValue) (group : ℕ) (histor
     → IsLeft new group s ge → own_tokens group names ≡ tokens_of (s.untold ++ brought s ge) → LeadsIn rules history happened (Stopped names) old new group (Up s ∷ [])
 left_so rules old new group history happened s ge names own comes law failed taken is_left named =
     let n = old.groups.own in
-    let left = subst (λ i. (number : ℕ) × new.groups.shows group (stopped_after number s.stored (group_step i s ge) ∷ stopped_after (number + 1) s.stored (group_step i s ge) ∷ [])) own is_left in
+    let left = subst (λ i. (number : ℕ) × new.groups.shows group (stopped_after number s.stored (group_step i s ge) ∷ stopped_after (number + 1) s.stored (group_step i s ge) ∷ [])) own is_left.shown in
     let parts : ℕ → StoredGroup = λ k. stopped_after k s.stored (group_step n s ge) in
     record {
       news = Down (parts left.0) ∷ Down (parts (left.0 + 1)) ∷ [];

@@ -5,7 +5,7 @@ use Rattle.raft_group_step.specs.GroupEvent.{GroupEvent}
 use Rattle.raft_group_step.specs.GroupState.{no_group}
 use Rattle.raft_group_step.specs.Message.{Message}
 use Rattle.raft_group_step.specs.StoredGroup.{Snapshot, StoredGroup}
-use Rattle.raft_group_storage.specs.Keeping.{KeepsAll, Shows}
+use Rattle.raft_group_storage.specs.Keeping.{Fails, KeepsAll, Shows}
 use Rattle.raft_messages.specs.declared.memberships.SnapshotBytes.{SnapshotBytes}
 use Rattle.raft_laws.specs.GroupWorld.{Down, NodeState}
 use Rattle.raft_headline.specs.ClusterEvent.{Clean, ClusterEvent, ClusterOutcome, Crash, Done, Fuse, Opened, PassedOver, Recorded, Reopen, ResetPeer}
@@ -114,10 +114,10 @@ ClosedOpeningsLead rules stands n outcomes =
     → (h : ℕ) → (left : LeadsDown rules n.groups.shows n.groups.own h (Reopen n.groups.own) (Stopped names) history (olds h)) × (left.more ≡ [])
 
 -- it stopped inside some group's opening, or before the first: whatever the storage shows of each group is where the stop may lead
-abbrev pub LeftOpeningsLead : {F : Type 0} → MachineRules → ℕ → Shows → Fault F → Type 0
-LeftOpeningsLead rules own shows why =
+abbrev pub LeftOpeningsLead : {F : Type 0} → MachineRules → ℕ → Shows → Fails → Fault F → Type 0
+LeftOpeningsLead rules own shows fails why =
     (ids : List ℕ) (history : List Recorded) (olds : ℕ → List NodeState) (kept : ℕ → StoredGroup) (names : List Unknown)
-    → StandsDown rules ids own history olds kept → HasNotOpened own kept shows why → NamesNobody names
+    → StandsDown rules ids own history olds kept → HasNotOpened own kept shows fails why → NamesNobody names
     → (h : ℕ) → LeadsDown rules shows own h (Reopen own) (Stopped names) history (olds h)
 
 -- nothing was begun, and the node may still be in each state in which it may have been

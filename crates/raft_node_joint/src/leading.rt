@@ -21,14 +21,14 @@ pub fn events_lead_on<M: StateMachine, S: GroupStorage<Snapshot = SnapshotBytes>
     behind: &Node<M, S>,
     answer: &Result<Outcome, Fault<S::Fault>>,
 )
-    ensures calls { (group : ℕ) (ge : GroupEvent) → EventsLead M.rules S.stands (behind.now ≡ before.now) (value_of M.state S.is_well S.shows before.now)
-        (value_of M.state S.is_well S.shows behind.now) group ge answer.now }
-    ensures addings { (group : ℕ) → AddingsLead M.rules S.stands (behind.now ≡ before.now) (value_of M.state S.is_well S.shows before.now)
-        (value_of M.state S.is_well S.shows behind.now) group answer.now }
+    ensures calls { (group : ℕ) (ge : GroupEvent) → EventsLead M.rules S.stands (behind.now ≡ before.now) (value_of M.state S.is_well S.shows S.fails before.now)
+        (value_of M.state S.is_well S.shows S.fails behind.now) group ge answer.now }
+    ensures addings { (group : ℕ) → AddingsLead M.rules S.stands (behind.now ≡ before.now) (value_of M.state S.is_well S.shows S.fails before.now)
+        (value_of M.state S.is_well S.shows S.fails behind.now) group answer.now }
     ensures frames { (frame : Frame) (peer now : ℕ) → FramesLead M.rules S.stands
-        (StaysBut (value_of M.state S.is_well S.shows before.now) (value_of M.state S.is_well S.shows behind.now) peer)
-        (fed_as (value_of M.state S.is_well S.shows before.now) (value_of M.state S.is_well S.shows behind.now))
-        (value_of M.state S.is_well S.shows behind.now) frame now answer.now }
+        (StaysBut (value_of M.state S.is_well S.shows S.fails before.now) (value_of M.state S.is_well S.shows S.fails behind.now) peer)
+        (fed_as (value_of M.state S.is_well S.shows S.fails before.now) (value_of M.state S.is_well S.shows S.fails behind.now))
+        (value_of M.state S.is_well S.shows S.fails behind.now) frame now answer.now }
 {}
 
 /// Memory is refused behind an event that was done: the node fails, and that leads on as a stop behind
@@ -41,16 +41,16 @@ pub fn stops_behind_events_lead_on<M: StateMachine, S: GroupStorage<Snapshot = S
     outcome: &Outcome,
     fault: &Fault<S::Fault>,
 )
-    ensures stops { (group : ℕ) (ge : GroupEvent) → StopsBehindLead M.rules S.stands (value_of M.state S.is_well S.shows before.now)
-        (value_of M.state S.is_well S.shows middle.now) (value_of M.state S.is_well S.shows behind.now) group ge outcome.now fault.now }
+    ensures stops { (group : ℕ) (ge : GroupEvent) → StopsBehindLead M.rules S.stands (value_of M.state S.is_well S.shows S.fails before.now)
+        (value_of M.state S.is_well S.shows S.fails middle.now) (value_of M.state S.is_well S.shows S.fails behind.now) group ge outcome.now fault.now }
     ensures calls { (group : ℕ) (ge : GroupEvent) → AnsweredEventsWereDone S.Fault M.rules S.stands (middle.now ≡ before.now)
-        (value_of M.state S.is_well S.shows before.now) (value_of M.state S.is_well S.shows middle.now) outcome.now group ge }
+        (value_of M.state S.is_well S.shows S.fails before.now) (value_of M.state S.is_well S.shows S.fails middle.now) outcome.now group ge }
     ensures addings { (group : ℕ) → AnsweredAddingsWereDone S.Fault M.rules S.stands (middle.now ≡ before.now)
-        (value_of M.state S.is_well S.shows before.now) (value_of M.state S.is_well S.shows middle.now) outcome.now group }
+        (value_of M.state S.is_well S.shows S.fails before.now) (value_of M.state S.is_well S.shows S.fails middle.now) outcome.now group }
     ensures frames { (frame : Frame) (peer now : ℕ) → AnsweredFramesWereDone S.Fault M.rules S.stands
-        (StaysBut (value_of M.state S.is_well S.shows before.now) (value_of M.state S.is_well S.shows middle.now) peer)
-        (fed_as (value_of M.state S.is_well S.shows before.now) (value_of M.state S.is_well S.shows middle.now))
-        (value_of M.state S.is_well S.shows middle.now) outcome.now frame now }
+        (StaysBut (value_of M.state S.is_well S.shows S.fails before.now) (value_of M.state S.is_well S.shows S.fails middle.now) peer)
+        (fed_as (value_of M.state S.is_well S.shows S.fails before.now) (value_of M.state S.is_well S.shows S.fails middle.now))
+        (value_of M.state S.is_well S.shows S.fails middle.now) outcome.now frame now }
 {}
 
 /// A node that has failed passes events over. One that fails outside of any event, or that lacks room
@@ -60,9 +60,9 @@ pub fn failures_lead_on<M: StateMachine, S: GroupStorage<Snapshot = SnapshotByte
     behind: &Node<M, S>,
     fault: &Fault<S::Fault>,
 )
-    ensures passes { (group : ℕ) (ge : GroupEvent) → FailedNodesPass S.Fault M.rules S.stands (value_of M.state S.is_well S.shows before.now)
-        (value_of M.state S.is_well S.shows behind.now) group ge }
-    ensures halts { FailuresLead M.rules (value_of M.state S.is_well S.shows before.now) (value_of M.state S.is_well S.shows behind.now) fault.now }
+    ensures passes { (group : ℕ) (ge : GroupEvent) → FailedNodesPass S.Fault M.rules S.stands (value_of M.state S.is_well S.shows S.fails before.now)
+        (value_of M.state S.is_well S.shows S.fails behind.now) group ge }
+    ensures halts { FailuresLead M.rules (value_of M.state S.is_well S.shows S.fails before.now) (value_of M.state S.is_well S.shows S.fails behind.now) fault.now }
 {}
 
 /// A node that is as it was may be in the same states of its groups: also where only what is held of
@@ -71,10 +71,10 @@ pub fn states_stay<M: StateMachine, S: GroupStorage<Snapshot = SnapshotBytes>>(
     before: &Node<M, S>,
     behind: &Node<M, S>,
 )
-    ensures same { behind.now ≡ before.now → StaysInAll M.rules (value_of M.state S.is_well S.shows before.now) (value_of M.state S.is_well S.shows behind.now) }
-    ensures but_streams { (peer : ℕ) → StaysBut (value_of M.state S.is_well S.shows before.now) (value_of M.state S.is_well S.shows behind.now) peer
-        → StaysInAll M.rules (fed_as (value_of M.state S.is_well S.shows before.now) (value_of M.state S.is_well S.shows behind.now))
-        (value_of M.state S.is_well S.shows behind.now) }
+    ensures same { behind.now ≡ before.now → StaysInAll M.rules (value_of M.state S.is_well S.shows S.fails before.now) (value_of M.state S.is_well S.shows S.fails behind.now) }
+    ensures but_streams { (peer : ℕ) → StaysBut (value_of M.state S.is_well S.shows S.fails before.now) (value_of M.state S.is_well S.shows S.fails behind.now) peer
+        → StaysInAll M.rules (fed_as (value_of M.state S.is_well S.shows S.fails before.now) (value_of M.state S.is_well S.shows S.fails behind.now))
+        (value_of M.state S.is_well S.shows S.fails behind.now) }
 {}
 
 /// An event that its group refuses doesn't stop: a stop before it was known whether it is refused is

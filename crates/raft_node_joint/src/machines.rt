@@ -12,5 +12,5 @@ use raft_node::Node;
 pub fn machines_keep_their_law<M: StateMachine, S: GroupStorage<Snapshot = SnapshotBytes>>(
     node: &Node<M, S>,
 )
-    ensures { KeepMachinesLaw M.rules (value_of M.state S.is_well S.shows node.now) }
+    ensures { KeepMachinesLaw M.rules (value_of M.state S.is_well S.shows S.fails node.now) }
 {}

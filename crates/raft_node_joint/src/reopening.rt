@@ -31,8 +31,8 @@ pub fn openings_lead_on<M: StateMachine, S: GroupStorage<Snapshot = SnapshotByte
     node: &Node<M, S>,
     outcomes: &[Outcome],
 )
-    ensures opened { OpeningsLead M.rules S.stands (value_of M.state S.is_well S.shows node.now) outcomes.now }
-    ensures closed { ClosedOpeningsLead M.rules S.stands (value_of M.state S.is_well S.shows node.now) outcomes.now }
+    ensures opened { OpeningsLead M.rules S.stands (value_of M.state S.is_well S.shows S.fails node.now) outcomes.now }
+    ensures closed { ClosedOpeningsLead M.rules S.stands (value_of M.state S.is_well S.shows S.fails node.now) outcomes.now }
 {}
 
 /// An opening that stopped leads each group to what the storage shows of it, and names no token. One
@@ -41,7 +41,7 @@ pub fn stopped_openings_lead_on<S: GroupStorage<Snapshot = SnapshotBytes>>(
     storage: &S,
     fault: &Fault<S::Fault>,
 )
-    ensures left { (rules : MachineRules) (own : ℕ) → LeftOpeningsLead rules own (S.shows storage.now) fault.now }
+    ensures left { (rules : MachineRules) (own : ℕ) → LeftOpeningsLead rules own (S.shows storage.now) (S.fails storage.now) fault.now }
     ensures names { StopsNameNobody fault.now }
     ensures refused { RefusedOpeningsLead }
 {}
@@ -50,7 +50,7 @@ pub fn stopped_openings_lead_on<S: GroupStorage<Snapshot = SnapshotBytes>>(
 pub fn crashes_lead_on<M: StateMachine, S: GroupStorage<Snapshot = SnapshotBytes>>(
     node: &Node<M, S>,
 )
-    ensures { CrashesLead M.rules (value_of M.state S.is_well S.shows node.now) }
+    ensures { CrashesLead M.rules (value_of M.state S.is_well S.shows S.fails node.now) }
 {}
 
 /// A peer's stream that begins anew leaves each group in the states in which it may have been.
@@ -58,7 +58,7 @@ pub fn resets_lead_on<M: StateMachine, S: GroupStorage<Snapshot = SnapshotBytes>
     before: &Node<M, S>,
     behind: &Node<M, S>,
 )
-    ensures { ResetsLead M.rules (value_of M.state S.is_well S.shows before.now) (value_of M.state S.is_well S.shows behind.now) }
+    ensures { ResetsLead M.rules (value_of M.state S.is_well S.shows S.fails before.now) (value_of M.state S.is_well S.shows S.fails behind.now) }
 {}
 
 /// A cleaning of a node's files leaves each group in the states in which it may have been, also where
@@ -69,8 +69,8 @@ pub fn cleanings_lead_on<M: StateMachine, S: GroupStorage<Snapshot = SnapshotByt
     behind: &Node<M, S>,
     fault: &Fault<S::Fault>,
 )
-    ensures done { CleaningsLead M.rules (value_of M.state S.is_well S.shows before.now) (value_of M.state S.is_well S.shows behind.now) }
-    ensures stopped { StoppedCleaningsLead M.rules (value_of M.state S.is_well S.shows before.now) (value_of M.state S.is_well S.shows behind.now) fault.now }
+    ensures done { CleaningsLead M.rules (value_of M.state S.is_well S.shows S.fails before.now) (value_of M.state S.is_well S.shows S.fails behind.now) }
+    ensures stopped { StoppedCleaningsLead M.rules (value_of M.state S.is_well S.shows S.fails before.now) (value_of M.state S.is_well S.shows S.fails behind.now) fault.now }
 {}
 
 /// A fuse of a node's files leaves each group in the states in which it may have been, whether the node
@@ -79,6 +79,6 @@ pub fn fuses_lead_on<M: StateMachine, S: GroupStorage<Snapshot = SnapshotBytes>>
     before: &Node<M, S>,
     behind: &Node<M, S>,
 )
-    ensures up { FusesLead M.rules (value_of M.state S.is_well S.shows before.now) (value_of M.state S.is_well S.shows behind.now) }
+    ensures up { FusesLead M.rules (value_of M.state S.is_well S.shows S.fails before.now) (value_of M.state S.is_well S.shows S.fails behind.now) }
     ensures down { DownFusesLead }
 {}

@@ -2,7 +2,7 @@
 use Rattle.std.specs.Prelude.{◌≡◌, ℕ, List, [], ◌∷◌, ◌++◌, Bool, true, false, Option, Some, None, IfErr, IfOk, IfSome, OnErr, OnOk, Result, Ok, Err, is_some, map, refl}
 use Rattle.std.proofs.Common.{inl, inr, ap, ap₂, ◌∙◌, subst, sym}
 use Rattle.raft_group_step.specs.StoredGroup.{StoredGroup}
-use Rattle.raft_group_storage.specs.Keeping.{KeepsAll, Shows}
+use Rattle.raft_group_storage.specs.Keeping.{Fails, KeepsAll, Shows}
 use Rattle.raft_log_memtables.specs.Content.{Content}
 use Rattle.raft_node.specs.Opening.{HasNotOpened}
 use Rattle.raft_node_faults.specs.Fault.{fault_met_by_node}
@@ -42,12 +42,13 @@ abbrev failed_by : {T F : Type 0} → Fault F → Result T (Fault F)
 failed_by why = Err why
 
 -- a storage that shows as much is left as well
-pub left_so : {F : Type 0} (own : ℕ) (kept : ℕ → StoredGroup) (before behind : Shows) (why : Fault F)
-    → ((group : ℕ) (parts : List StoredGroup) → before group parts → behind group parts) → HasNotOpened own kept before why → HasNotOpened own kept behind why
-left_so own kept before behind why more n = record {
+pub left_so : {F : Type 0} (own : ℕ) (kept : ℕ → StoredGroup) (before behind : Shows) (fails : Fails) (why : Fault F)
+    → ((group : ℕ) (parts : List StoredGroup) → before group parts → behind group parts) → HasNotOpened own kept before fails why → HasNotOpened own kept behind fails why
+left_so own kept before behind fails why more n = record {
   stops = n.stops;
   left = λ group there. let at = n.left group there in (at.0, more group _ at.1);
   none = λ group gone. more group (kept group ∷ []) (n.none group gone);
+  failed = n.failed;
 }
 
 -- a call that was done was asked of a node that goes on

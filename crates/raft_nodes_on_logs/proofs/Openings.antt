@@ -36,6 +36,7 @@ use Rattle.raft_node_laws.specs.Law.{Leads, StandsBehind}
 use Rattle.raft_node_laws.specs.Saying.{IsOnceEach, names_of}
 use Rattle.raft_node_laws.specs.Saying as law
 use Rattle.raft_store.specs.Reading.{Holds, HoldsOne, StandsFor}
+use Rattle.raft_store.specs.Storable.{FailsBy}
 use Rattle.raft_store.specs.declared.fault.StoreFault.{StoreFault}
 use Rattle.raft_nodes_on_logs.specs.Acts.{AreHandedBack, AreHeld, CrashesTo, FusesDown, IsClosedAgain, IsLeftOpening, IsOpened, IsUnopened, OpensTo, StaysDown, log_node_acts, log_node_states}
 use Rattle.raft_nodes_on_logs.specs.Answering.{node_frame, node_outcome, stop_in}
@@ -212,7 +213,7 @@ module _ (k : NodeKind) (begins : KeepsItsLaw k.rules k.rules.first) (restores :
         let nobody = nobody_named k.cause l.why not_opened.stops in
         down_led old new old.id (AreShownDown k new.files) history (λ i. Reopen i) (Stopped (names_of stop)) olds (λ o. o ≡ Stopped (names_of stop)) refl stays
         (λ group parts shown. shown) refl
-        (left_openings_lead k.rules old.id (AreShownDown k new.files) l.why ids history olds parts_of (names_of stop) (stands l.content l.found) not_opened
+        (left_openings_lead k.rules old.id (AreShownDown k new.files) (FailsBy k.rules l.refused) l.why ids history olds parts_of (names_of stop) (stands l.content l.found) not_opened
         (subst (λ s. NamesNobody (names_of s)) (sym l.named) nobody))
 
     pub unopened_led : (new : NodeOf k) (stop : Stop) → StaysDown k old new → IsUnopened k old.files old.id stop new.files

@@ -39,7 +39,9 @@ use Rattle.raft_node_laws.specs.Law.{first_state}
 use Rattle.raft_node_laws.specs.Saying.{AreRising, names_of}
 use Rattle.raft_store.specs.Faults.{log_fault}
 use Rattle.raft_store.specs.Reading.{Holds, StandsFor}
+use Rattle.raft_store.specs.Storable.{FailsBy}
 use Rattle.raft_store.specs.declared.fault.StoreFault.{StoreFault}
+use Rattle.raft_store.specs.declared.fault.StoreRefusal.{StoreRefusal}
 use Rattle.raft_wire.specs.Frames.{FitsFrame, spelled_frame}
 use Rattle.raft_wire.specs.Stream.{fresh}
 use Rattle.raft_wire.specs.declared.frame.Frame.{Frame}
@@ -219,7 +221,9 @@ module _ (k : NodeKind) where
     pub found : k.found old content
     pub why : Fault (KeepingFault k)
     pub named : stop ≡ stop_in k.cause why
-    pub left : (kept : ℕ → StoredGroup) → AreHeld k.rules id content kept → HasNotOpened id kept (AreShownBy k.rules k.found new) why
+    -- what its store refused of a command, if it did
+    pub refused : Option StoreRefusal
+    pub left : (kept : ℕ → StoredGroup) → AreHeld k.rules id content kept → HasNotOpened id kept (AreShownBy k.rules k.found new) (FailsBy k.rules refused) why
     pub log : k.Log
     pub opens : k.opens old log
     pub behind : k.Log

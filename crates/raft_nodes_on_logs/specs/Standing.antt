@@ -7,7 +7,7 @@ use Rattle.raft_node.specs.Standing.{NodeValue, value_of}
 use Rattle.raft_node.specs.declared.node.Node.{Node}
 use Rattle.raft_node_joint.specs.Standing.{MayBe}
 use Rattle.raft_wire.specs.Stream.{fresh}
-use Rattle.raft_nodes_on_logs.specs.Kept.{AreShownDown, Keeping, KeepingFault, is_well, shows}
+use Rattle.raft_nodes_on_logs.specs.Kept.{AreShownDown, Keeping, KeepingFault, fails, is_well, shows}
 use Rattle.raft_nodes_on_logs.specs.Kinds.{NodeKind}
 use Rattle.raft_nodes_on_logs.specs.declared.log_node.LogNode.{LogNode}
 
@@ -27,7 +27,7 @@ module _ (k : NodeKind) where
 
   -- in plain words
   abbrev pub value : UpNode → NodeValue
-  value n = value_of k.state (is_well k) (shows k) n
+  value n = value_of k.state (is_well k) (shows k) (fails k) n
 
   -- it is down, and its files show one of these
   pub record MayBeDown (files : k.Files) (group : ℕ) (states : List NodeState) : Type 0 where

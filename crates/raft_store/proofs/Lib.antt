@@ -6,3 +6,7 @@ pub mod Recalling
 pub mod Spelled
 pub mod Storing
 pub mod Named
+pub mod Blank
+pub mod Calls
+pub mod Lengths
+pub mod Records

@@ -5,7 +5,8 @@ use Rattle.std.specs.Int.{w64, to_be_bytes}
 use Rattle.raft_values.specs.declared.vote.Vote.{Vote}
 use Rattle.raft_values.specs.declared.log_id.LogId.{LogId}
 use Rattle.raft_group_step.specs.Values.{Entry}
-use Rattle.raft_group_step.specs.StoredGroup.{StoredGroup}
+use Rattle.raft_group_step.specs.StoredGroup.{StoredGroup, StoringCommand, after_storing}
+use Rattle.raft_group_storage.specs.Keeping.{Shows}
 use Rattle.raft_log_records.specs.Item.{Change, Item}
 use Rattle.raft_log_records.specs.Item.Change.{entries, compact, put}
 use Rattle.raft_log_records.specs.Batch.{numbered}
@@ -85,3 +86,7 @@ pub record ShowsIn (rules : MachineRules) (sound : Type 0) (answers : Content (L
 -- the same, of a log by its members
 abbrev pub ShowsBy : {X : Type 0} → MachineRules → (X → Type 0) → (X → Content (List ℕ)) → (X → Leaves) → X → Option Recent → ℕ → List StoredGroup → Type 0
 ShowsBy rules sound answers leaves log recent group parts = ShowsIn rules (sound log) (answers log) (leaves log) recent group parts
+
+-- a call that failed stored the command in the group, or not
+abbrev pub MayHaveStored : Shows → Shows → ℕ → StoringCommand → Type 0
+MayHaveStored old new group c = (s : StoredGroup) → old group (s ∷ []) → new group (s ∷ after_storing c s ∷ [])

@@ -3,3 +3,4 @@ pub mod Reading
 pub mod Batches
 pub mod Faults
 pub mod Showing
+pub mod Storable

@@ -10,7 +10,10 @@ impl<M: StateMachine, L: CleanLog> CleanStorage for Store<M, L> {
     fn clean_files(&mut self) -> Result<Vec<u64>, StoreFault<L::Fault>> {
         match self.log.clean() {
             Ok(groups) => Ok(groups),
-            Err(fault) => Err(StoreFault::Log(fault)),
+            Err(fault) => {
+                self.failed_cleaning = true;
+                Err(StoreFault::Log(fault))
+            }
         }
     }
 }

@@ -1,7 +1,9 @@
 //! Why a store's calls fail.
 ghost use Rattle.raft_store.specs.declared.fault.StoreRefusal.TheVariants as refusal;
 ghost use Rattle.raft_store.specs.declared.fault.StoreFault.TheVariants.{Refused};
-ghost use Rattle.raft_store.specs.Faults.{refusal_of};
+ghost use Rattle.raft_store.specs.Faults.{noted_after, refusal_of, refusal_of_record};
+ghost use Rattle.std.specs.Prelude.{◌≡◌};
+ghost use Rattle.std.specs.Result.{result_err};
 
 use raft_log_records::RecordError;
 use raft_wire::{FrameError, FrameFault};
@@ -54,6 +56,10 @@ impl<T: Drop> From<AllocFailed<T>> for StoreRefusal {
 }
 
 impl From<RecordError> for StoreRefusal {
+    ghost from_gives = { λ error e. e ≡ refusal_of_record error };
+
+    ghost use Rattle.std.specs.Prelude.{◌≡◌};
+
     fn from(error: RecordError) -> StoreRefusal {
         match error {
             RecordError::Memory => StoreRefusal::Memory,
@@ -101,5 +107,18 @@ impl<F> From<AllocError> for StoreFault<F> {
 
     fn from(_e: AllocError) -> StoreFault<F> {
         StoreFault::Refused(StoreRefusal::Memory)
+    }
+}
+
+/// What is noted behind a call: its refusal, or else what was noted before.
+pub(crate) fn noted_after<T, F>(
+    before: Option<StoreRefusal>,
+    made: &Result<T, StoreFault<F>>,
+) -> Option<StoreRefusal>
+    ensures { result ≡ noted_after before (result_err made.now) }
+{
+    match made {
+        Err(StoreFault::Refused(refusal)) => Some(*refusal),
+        Ok(_) | Err(StoreFault::Log(_)) => before,
     }
 }

@@ -1,5 +1,5 @@
-//! The store is a storage of groups.
-use crate::fault::StoreFault;
+//! The store is a storage of groups. What it refuses a call for is noted behind it.
+use crate::fault::{StoreFault, noted_after};
 use crate::store::Store;
 use raft_content_log::ContentLog;
 use raft_group_step::Entries;
@@ -14,35 +14,46 @@ impl<M: StateMachine, L: ContentLog> GroupStorage for Store<M, L> {
 
     type Fault = StoreFault<L::Fault>;
 
-    ghost use Rattle.std.proofs.Common.{subst, sym};
-    ghost use Rattle.std.specs.Prelude.{option_and_then};
+    ghost use Rattle.std.specs.Prelude.{◌≡◌, None};
     ghost use Rattle.raft_store.specs.Batches.{ShowsBy};
-    ghost use Rattle.raft_store.specs.Faults.{log_fault};
+    ghost use Rattle.raft_store.specs.Faults.{IsUsedWell, Meets, calls_later, calls_want, no_call};
     ghost use Rattle.raft_store.specs.Reading.{StandsFor};
     ghost use Rattle.raft_store.specs.Showing.{shows_more};
+    ghost use Rattle.raft_store.specs.Storable.{FailsBy, fails_anyhow};
 
-    ghost is_well = { λ x. L.is_sound x.log };
+    ghost is_well = { λ x. L.is_sound x.log × (x.refused ≡ None) };
 
     ghost shows = { λ x group parts. ShowsBy M.rules L.is_sound L.answers L.leaves x.log x.recent group parts };
 
     ghost stands = { λ x y. StandsFor M.rules x y };
 
-    ghost meets = { λ old new met. L.meets old.log new.log (option_and_then log_fault met) };
+    ghost meets = { λ old new met. Meets (L.meets old.log new.log) L.is_misuse
+        (IsUsedWell L.is_sound L.answers L.leaves old.log old.recent) (IsUsedWell L.is_sound L.answers L.leaves new.log new.recent)
+        new.refused new.failed_cleaning met };
+
+    ghost fails = { λ x c s. FailsBy M.rules x.refused c s };
 
     ghost shows_more = { λ x. shows_more M.rules L.is_sound L.answers L.leaves x.log x.recent };
 
-    ghost meets_none = { λ x. L.meets_none x.log };
+    ghost meets_none = { λ x. no_call L.is_misuse (L.meets x.log x.log) _ _ _ (L.meets_none x.log) };
 
-    ghost meets_later = { λ x y z met first second. L.meets_later x.log y.log z.log (option_and_then log_fault met) first second };
+    ghost meets_later = { λ x y z met first second. calls_later L.is_misuse (L.meets x.log y.log) (L.meets y.log z.log) (L.meets x.log z.log) _ _ _ _ _ _ _ met
+        (L.meets_later x.log y.log z.log _) first second };
 
-    ghost meets_want = { λ x y refused why gives first. subst (λ fault. L.meets x.log y.log (log_fault fault)) (sym gives) first };
+    ghost meets_want = { λ x y refused why gives first. calls_want L.is_misuse (L.meets x.log y.log) _ _ _ _ why gives first };
+
+    ghost well_fails = { λ x well. fails_anyhow M.rules x.refused well.1 };
 
     fn make_group(&mut self, group: u64) -> Result<(), StoreFault<L::Fault>> {
-        Store::make_group(self, group)
+        let made = Store::make_group(self, group);
+        self.refused = noted_after(self.refused, &made);
+        made
     }
 
     fn set_vote(&mut self, group: u64, vote: Vote<u64>) -> Result<(), StoreFault<L::Fault>> {
-        Store::set_vote(self, group, vote)
+        let made = Store::set_vote(self, group, vote);
+        self.refused = noted_after(self.refused, &made);
+        made
     }
 
     fn put_entries(
@@ -51,15 +62,21 @@ impl<M: StateMachine, L: ContentLog> GroupStorage for Store<M, L> {
         place: u64,
         entries: &[GroupEntry],
     ) -> Result<(), StoreFault<L::Fault>> {
-        Store::put_entries(self, group, place, entries)
+        let made = Store::put_entries(self, group, place, entries);
+        self.refused = noted_after(self.refused, &made);
+        made
     }
 
     fn cut_from(&mut self, group: u64, place: u64) -> Result<(), StoreFault<L::Fault>> {
-        Store::cut_from(self, group, place)
+        let made = Store::cut_from(self, group, place);
+        self.refused = noted_after(self.refused, &made);
+        made
     }
 
     fn remove_up_to(&mut self, group: u64, id: LogId<u64>) -> Result<(), StoreFault<L::Fault>> {
-        Store::remove_up_to(self, group, id)
+        let made = Store::remove_up_to(self, group, id);
+        self.refused = noted_after(self.refused, &made);
+        made
     }
 
     fn set_snapshot(
@@ -67,11 +84,15 @@ impl<M: StateMachine, L: ContentLog> GroupStorage for Store<M, L> {
         group: u64,
         snapshot: &SnapshotBytes,
     ) -> Result<(), StoreFault<L::Fault>> {
-        Store::set_snapshot(self, group, snapshot)
+        let made = Store::set_snapshot(self, group, snapshot);
+        self.refused = noted_after(self.refused, &made);
+        made
     }
 
     fn start_after(&mut self, group: u64, id: LogId<u64>) -> Result<(), StoreFault<L::Fault>> {
-        Store::start_after(self, group, id)
+        let made = Store::start_after(self, group, id);
+        self.refused = noted_after(self.refused, &made);
+        made
     }
 
     fn entries_between(
@@ -81,7 +102,9 @@ impl<M: StateMachine, L: ContentLog> GroupStorage for Store<M, L> {
         prev: Option<LogId<u64>>,
         last: Option<LogId<u64>>,
     ) -> Result<Entries<u64, BasicNode, Bytes>, StoreFault<L::Fault>> {
-        Store::entries_between(self, alloc, group, prev, last)
+        let made = Store::entries_between(self, alloc, group, prev, last);
+        self.refused = noted_after(self.refused, &made);
+        made
     }
 
     fn snapshot(
@@ -89,7 +112,9 @@ impl<M: StateMachine, L: ContentLog> GroupStorage for Store<M, L> {
         alloc: Global,
         group: u64,
     ) -> Result<Option<SnapshotBytes>, StoreFault<L::Fault>> {
-        Store::snapshot(self, alloc, group)
+        let made = Store::snapshot(self, alloc, group);
+        self.refused = noted_after(self.refused, &made);
+        made
     }
 
     fn head(snapshot: &SnapshotBytes) -> SnapshotHead<'_> {
@@ -97,10 +122,14 @@ impl<M: StateMachine, L: ContentLog> GroupStorage for Store<M, L> {
     }
 
     fn load(&mut self, alloc: Global, group: u64) -> Result<LoadedGroup, StoreFault<L::Fault>> {
-        Store::load(self, alloc, group)
+        let made = Store::load(self, alloc, group);
+        self.refused = noted_after(self.refused, &made);
+        made
     }
 
     fn groups(&mut self, alloc: Global) -> Result<Vec<u64>, StoreFault<L::Fault>> {
-        Store::groups(self, alloc)
+        let made = Store::groups(self, alloc);
+        self.refused = noted_after(self.refused, &made);
+        made
     }
 }

@@ -1,5 +1,6 @@
 //! Where a stored log begins and ends.
-ghost use Rattle.std.specs.Prelude.{◌≡◌, ◌<◌, ◌≤◌, ◌+◌, ◌-◌, ◌^◌, List, IfOk, OnOk, OnErr, max, min, length, take, drop};
+ghost use Rattle.std.specs.Prelude.{◌≡◌, ◌⊎◌, ◌<◌, ◌≤◌, ◌+◌, ◌-◌, ◌^◌, List, IfErr, IfOk, OnOk, OnErr, max, min, length, take, drop};
+ghost use Rattle.raft_store.specs.declared.fault.StoreRefusal.TheVariants as refusal;
 ghost use Rattle.raft_values.specs.LogId.{next_place};
 ghost use Rattle.raft_group_step.specs.Values.{Entry};
 
@@ -51,6 +52,7 @@ impl Bounds {
     pub fn check_place(&self, place: u64) -> Result<(), StoreRefusal>
         ensures low { OnOk result (self.now.first ≤ place) }
         ensures high { OnOk result (place ≤ self.now.end) }
+        ensures refused { IfErr result (λ why. (why ≡ refusal.Gap) × ((place < self.now.first) ⊎ (self.now.end < place))) }
     {
         if place < self.first || self.end < place {
             return Err(StoreRefusal::Gap);
@@ -60,7 +62,8 @@ impl Bounds {
 
     /// Refuses a purge point below the one that is there.
     pub fn check_purge(&self, id: LogId<u64>) -> Result<(), StoreRefusal>
-        ensures { OnOk result (self.now.first ≤ id.index + 1) }
+        ensures low { OnOk result (self.now.first ≤ id.index + 1) }
+        ensures refused { IfErr result (λ why. (why ≡ refusal.BelowPurge) × (id.index + 1 < self.now.first)) }
     {
         if id.index < self.first && self.first - id.index > 1 {
             return Err(StoreRefusal::BelowPurge);

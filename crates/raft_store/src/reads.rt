@@ -11,6 +11,7 @@ ghost use Rattle.raft_group_step.specs.StoredGroup.{StoredGroup, end_place, firs
 ghost use Rattle.raft_group_storage.specs.Keeping.{KeepsAll, StandsOrNone, entries_of};
 ghost use Rattle.raft_group_storage.specs.Loaded.{IsLoaded};
 ghost use Rattle.raft_log_records.specs.Batch.{payloads};
+ghost use Rattle.raft_machines.specs.Machine.{MachineRules};
 ghost use Rattle.raft_store.specs.Batches.{ShowsBy};
 ghost use Rattle.raft_store.specs.Faults.{IsLogOrMemory, log_fault};
 ghost use Rattle.raft_store.specs.Keys.{group_key};
@@ -55,8 +56,9 @@ impl<M: StateMachine, L: ContentLog> Store<M, L> {
         ensures cause { IfErr result (IsLogOrMemory L.is_misuse) }
         ensures well { L.is_sound self.old.log → OnOk result (L.is_sound self.new.log) }
         ensures steady { L.is_sound self.new.log → L.is_sound self.old.log × (L.answers self.new.log ≡ L.answers self.old.log) }
-        ensures kept { KeepsAll (ShowsBy M.rules L.is_sound L.answers L.leaves self.old.log self.old.recent) (ShowsBy M.rules L.is_sound L.answers L.leaves self.new.log self.new.recent) }
+        ensures kept { (rules : MachineRules) → KeepsAll (ShowsBy rules L.is_sound L.answers L.leaves self.old.log self.old.recent) (ShowsBy rules L.is_sound L.answers L.leaves self.new.log self.new.recent) }
         ensures met { L.meets self.old.log self.new.log (option_and_then log_fault (result_err result)) }
+        ensures refused { self.new.refused ≡ self.old.refused }
     {
         match self.log.get(group, key) {
             Ok(value) => Ok(value),
@@ -74,8 +76,9 @@ impl<M: StateMachine, L: ContentLog> Store<M, L> {
         ensures entries { L.is_sound self.old.log → IfOk result (λ found. AreEntries (L.answers self.old.log group).entry begin end (payloads found.items)) }
         ensures cause { L.is_sound self.old.log → begin < end → AreThere (L.answers self.old.log group).entry begin end → IfErr result (IsLogOrMemory L.is_misuse) }
         ensures well { L.is_sound self.old.log → OnOk result (L.is_sound self.new.log) }
-        ensures kept { KeepsAll (ShowsBy M.rules L.is_sound L.answers L.leaves self.old.log self.old.recent) (ShowsBy M.rules L.is_sound L.answers L.leaves self.new.log self.new.recent) }
+        ensures kept { (rules : MachineRules) → KeepsAll (ShowsBy rules L.is_sound L.answers L.leaves self.old.log self.old.recent) (ShowsBy rules L.is_sound L.answers L.leaves self.new.log self.new.recent) }
         ensures met { L.meets self.old.log self.new.log (option_and_then log_fault (result_err result)) }
+        ensures refused { self.new.refused ≡ self.old.refused }
     {
         match self.log.fetch_entries_to(group, begin, end) {
             Ok(bytes) => Ok(bytes),
@@ -85,17 +88,18 @@ impl<M: StateMachine, L: ContentLog> Store<M, L> {
 
     // Where the group's log begins and ends.
     pub(crate) fn bounds(&mut self, group: u64) -> Result<Bounds, StoreFault<L::Fault>>
-        ensures purged { (s : StoredGroup) → L.is_sound self.old.log → ShowsBy M.rules L.is_sound L.answers L.leaves self.old.log self.old.recent group (s ∷ [])
+        ensures purged { (rules : MachineRules) (s : StoredGroup) → L.is_sound self.old.log → ShowsBy rules L.is_sound L.answers L.leaves self.old.log self.old.recent group (s ∷ [])
             → IfOk result (λ b. b.purged ≡ s.purged) }
-        ensures first { (s : StoredGroup) → L.is_sound self.old.log → ShowsBy M.rules L.is_sound L.answers L.leaves self.old.log self.old.recent group (s ∷ [])
+        ensures first { (rules : MachineRules) (s : StoredGroup) → L.is_sound self.old.log → ShowsBy rules L.is_sound L.answers L.leaves self.old.log self.old.recent group (s ∷ [])
             → IfOk result (λ b. b.first ≡ first_place s) }
-        ensures end { (s : StoredGroup) → L.is_sound self.old.log → ShowsBy M.rules L.is_sound L.answers L.leaves self.old.log self.old.recent group (s ∷ [])
+        ensures end { (rules : MachineRules) (s : StoredGroup) → L.is_sound self.old.log → ShowsBy rules L.is_sound L.answers L.leaves self.old.log self.old.recent group (s ∷ [])
             → IfOk result (λ b. b.end ≡ end_place s) }
-        ensures cause { (s : StoredGroup) → L.is_sound self.old.log → ShowsBy M.rules L.is_sound L.answers L.leaves self.old.log self.old.recent group (s ∷ [])
+        ensures cause { (rules : MachineRules) (s : StoredGroup) → L.is_sound self.old.log → ShowsBy rules L.is_sound L.answers L.leaves self.old.log self.old.recent group (s ∷ [])
             → IfErr result (IsLogOrMemory L.is_misuse) }
         ensures well { L.is_sound self.old.log → OnOk result (L.is_sound self.new.log) }
-        ensures kept { KeepsAll (ShowsBy M.rules L.is_sound L.answers L.leaves self.old.log self.old.recent) (ShowsBy M.rules L.is_sound L.answers L.leaves self.new.log self.new.recent) }
+        ensures kept { (rules : MachineRules) → KeepsAll (ShowsBy rules L.is_sound L.answers L.leaves self.old.log self.old.recent) (ShowsBy rules L.is_sound L.answers L.leaves self.new.log self.new.recent) }
         ensures met { L.meets self.old.log self.new.log (option_and_then log_fault (result_err result)) }
+        ensures refused { self.new.refused ≡ self.old.refused }
     {
         let purged_value = self.get(group, b"purged")?;
         let end_value = self.get(group, b"end")?;
@@ -106,27 +110,29 @@ impl<M: StateMachine, L: ContentLog> Store<M, L> {
 
     // Whether the node has the group.
     fn is_present(&mut self, group: u64) -> Result<bool, StoreFault<L::Fault>>
-        ensures ok { (s : StoredGroup) → L.is_sound self.old.log → ShowsBy M.rules L.is_sound L.answers L.leaves self.old.log self.old.recent group (s ∷ [])
+        ensures ok { (rules : MachineRules) (s : StoredGroup) → L.is_sound self.old.log → ShowsBy rules L.is_sound L.answers L.leaves self.old.log self.old.recent group (s ∷ [])
             → IfOk result (λ there. there ≡ s.present) }
         ensures by_key { L.is_sound self.old.log → IfOk result (λ there. there ≡ is_some ((L.answers self.old.log group).value group_key)) }
         ensures cause { IfErr result (IsLogOrMemory L.is_misuse) }
         ensures well { L.is_sound self.old.log → OnOk result (L.is_sound self.new.log) }
         ensures steady { L.is_sound self.new.log → L.is_sound self.old.log × (L.answers self.new.log ≡ L.answers self.old.log) }
-        ensures kept { KeepsAll (ShowsBy M.rules L.is_sound L.answers L.leaves self.old.log self.old.recent) (ShowsBy M.rules L.is_sound L.answers L.leaves self.new.log self.new.recent) }
+        ensures kept { (rules : MachineRules) → KeepsAll (ShowsBy rules L.is_sound L.answers L.leaves self.old.log self.old.recent) (ShowsBy rules L.is_sound L.answers L.leaves self.new.log self.new.recent) }
         ensures met { L.meets self.old.log self.new.log (option_and_then log_fault (result_err result)) }
+        ensures refused { self.new.refused ≡ self.old.refused }
     {
         Ok(self.get(group, b"group")?.is_some())
     }
 
     // The vote.
     fn vote(&mut self, group: u64) -> Result<Vote<u64>, StoreFault<L::Fault>>
-        ensures ok { (s : StoredGroup) → L.is_sound self.old.log → ShowsBy M.rules L.is_sound L.answers L.leaves self.old.log self.old.recent group (s ∷ [])
+        ensures ok { (rules : MachineRules) (s : StoredGroup) → L.is_sound self.old.log → ShowsBy rules L.is_sound L.answers L.leaves self.old.log self.old.recent group (s ∷ [])
             → IfOk result (λ vote. vote ≡ s.vote) }
-        ensures cause { (s : StoredGroup) → L.is_sound self.old.log → ShowsBy M.rules L.is_sound L.answers L.leaves self.old.log self.old.recent group (s ∷ [])
+        ensures cause { (rules : MachineRules) (s : StoredGroup) → L.is_sound self.old.log → ShowsBy rules L.is_sound L.answers L.leaves self.old.log self.old.recent group (s ∷ [])
             → IfErr result (IsLogOrMemory L.is_misuse) }
         ensures well { L.is_sound self.old.log → OnOk result (L.is_sound self.new.log) }
-        ensures kept { KeepsAll (ShowsBy M.rules L.is_sound L.answers L.leaves self.old.log self.old.recent) (ShowsBy M.rules L.is_sound L.answers L.leaves self.new.log self.new.recent) }
+        ensures kept { (rules : MachineRules) → KeepsAll (ShowsBy rules L.is_sound L.answers L.leaves self.old.log self.old.recent) (ShowsBy rules L.is_sound L.answers L.leaves self.new.log self.new.recent) }
         ensures met { L.meets self.old.log self.new.log (option_and_then log_fault (result_err result)) }
+        ensures refused { self.new.refused ≡ self.old.refused }
     {
         let value = self.get(group, b"vote")?;
         Ok(vote_of(value)?)
@@ -139,12 +145,13 @@ impl<M: StateMachine, L: ContentLog> Store<M, L> {
         group: u64,
         places: Range<u64>,
     ) -> Result<Vec<GroupEntry>, StoreFault<L::Fault>>
-        ensures read { (s : StoredGroup) → L.is_sound self.old.log → ShowsBy M.rules L.is_sound L.answers L.leaves self.old.log self.old.recent group (s ∷ [])
+        ensures read { (rules : MachineRules) (s : StoredGroup) → L.is_sound self.old.log → ShowsBy rules L.is_sound L.answers L.leaves self.old.log self.old.recent group (s ∷ [])
             → first_place s ≤ places.start → places.end ≤ max (end_place s) places.start
             → MatchResult result (λ found. found.items ≡ take (places.end - places.start) (drop (places.start - first_place s) s.log)) (IsLogOrMemory L.is_misuse) }
         ensures well { L.is_sound self.old.log → OnOk result (L.is_sound self.new.log) }
-        ensures kept { KeepsAll (ShowsBy M.rules L.is_sound L.answers L.leaves self.old.log self.old.recent) (ShowsBy M.rules L.is_sound L.answers L.leaves self.new.log self.new.recent) }
+        ensures kept { (rules : MachineRules) → KeepsAll (ShowsBy rules L.is_sound L.answers L.leaves self.old.log self.old.recent) (ShowsBy rules L.is_sound L.answers L.leaves self.new.log self.new.recent) }
         ensures met { L.meets self.old.log self.new.log (option_and_then log_fault (result_err result)) }
+        ensures refused { self.new.refused ≡ self.old.refused }
     {
         if places.is_empty() {
             return Ok(Vec::new(alloc));
@@ -162,7 +169,7 @@ impl<M: StateMachine, L: ContentLog> Store<M, L> {
         prev: Option<LogId<u64>>,
         last: Option<LogId<u64>>,
     ) -> Result<Option<Vec<GroupEntry>>, StoreRefusal>
-        ensures { (s : StoredGroup) → L.is_sound self.now.log → ShowsBy M.rules L.is_sound L.answers L.leaves self.now.log self.now.recent group (s ∷ [])
+        ensures { (rules : MachineRules) (s : StoredGroup) → L.is_sound self.now.log → ShowsBy rules L.is_sound L.answers L.leaves self.now.log self.now.recent group (s ∷ [])
             → MatchResult result (λ found. IfSome found (λ entries. entries.items ≡ entries_of s prev last)) (λ refused. refused ≡ refusal.Memory) }
     {
         let Some(recent) = &self.recent else {
@@ -182,12 +189,13 @@ impl<M: StateMachine, L: ContentLog> Store<M, L> {
         group: u64,
     ) -> Result<Option<SnapshotBytes>, StoreFault<L::Fault>>
         ensures well { L.is_sound self.old.log → OnOk result (L.is_sound self.new.log) }
-        ensures ok { (s : StoredGroup) → L.is_sound self.old.log → ShowsBy M.rules L.is_sound L.answers L.leaves self.old.log self.old.recent group (s ∷ [])
-            → IfOk result (λ copy. StandsOrNone (StandsFor M.rules) copy s.snapshot) }
-        ensures cause { (s : StoredGroup) → L.is_sound self.old.log → ShowsBy M.rules L.is_sound L.answers L.leaves self.old.log self.old.recent group (s ∷ [])
+        ensures ok { (rules : MachineRules) (s : StoredGroup) → L.is_sound self.old.log → ShowsBy rules L.is_sound L.answers L.leaves self.old.log self.old.recent group (s ∷ [])
+            → IfOk result (λ copy. StandsOrNone (StandsFor rules) copy s.snapshot) }
+        ensures cause { (rules : MachineRules) (s : StoredGroup) → L.is_sound self.old.log → ShowsBy rules L.is_sound L.answers L.leaves self.old.log self.old.recent group (s ∷ [])
             → IfErr result (IsLogOrMemory L.is_misuse) }
-        ensures kept { KeepsAll (ShowsBy M.rules L.is_sound L.answers L.leaves self.old.log self.old.recent) (ShowsBy M.rules L.is_sound L.answers L.leaves self.new.log self.new.recent) }
+        ensures kept { (rules : MachineRules) → KeepsAll (ShowsBy rules L.is_sound L.answers L.leaves self.old.log self.old.recent) (ShowsBy rules L.is_sound L.answers L.leaves self.new.log self.new.recent) }
         ensures met { L.meets self.old.log self.new.log (option_and_then log_fault (result_err result)) }
+        ensures refused { self.new.refused ≡ self.old.refused }
     {
         let value = self.get(group, b"snapshot")?;
         Ok(snapshot_of(alloc, value)?)
@@ -204,12 +212,13 @@ impl<M: StateMachine, L: ContentLog> Store<M, L> {
         last: Option<LogId<u64>>,
     ) -> Result<Entries<u64, BasicNode, Bytes>, StoreFault<L::Fault>>
         ensures well { L.is_sound self.old.log → OnOk result (L.is_sound self.new.log) }
-        ensures ok { (s : StoredGroup) → L.is_sound self.old.log → ShowsBy M.rules L.is_sound L.answers L.leaves self.old.log self.old.recent group (s ∷ [])
+        ensures ok { (rules : MachineRules) (s : StoredGroup) → L.is_sound self.old.log → ShowsBy rules L.is_sound L.answers L.leaves self.old.log self.old.recent group (s ∷ [])
             → IfOk result (λ copies. copies ≡ entries_of s prev last) }
-        ensures cause { (s : StoredGroup) → L.is_sound self.old.log → ShowsBy M.rules L.is_sound L.answers L.leaves self.old.log self.old.recent group (s ∷ [])
+        ensures cause { (rules : MachineRules) (s : StoredGroup) → L.is_sound self.old.log → ShowsBy rules L.is_sound L.answers L.leaves self.old.log self.old.recent group (s ∷ [])
             → IfErr result (IsLogOrMemory L.is_misuse) }
-        ensures kept { KeepsAll (ShowsBy M.rules L.is_sound L.answers L.leaves self.old.log self.old.recent) (ShowsBy M.rules L.is_sound L.answers L.leaves self.new.log self.new.recent) }
+        ensures kept { (rules : MachineRules) → KeepsAll (ShowsBy rules L.is_sound L.answers L.leaves self.old.log self.old.recent) (ShowsBy rules L.is_sound L.answers L.leaves self.new.log self.new.recent) }
         ensures met { L.meets self.old.log self.new.log (option_and_then log_fault (result_err result)) }
+        ensures refused { self.new.refused ≡ self.old.refused }
     {
         if let Some(entries) = self.recalled(alloc, group, prev, last)? {
             return Ok(Entries::from_vec(entries));
@@ -223,12 +232,13 @@ impl<M: StateMachine, L: ContentLog> Store<M, L> {
     /// aren't readable are refused (`Value`, `BadEnd`); where the store is well there are none.
     pub fn load(&mut self, alloc: Global, group: u64) -> Result<LoadedGroup, StoreFault<L::Fault>>
         ensures well { L.is_sound self.old.log → OnOk result (L.is_sound self.new.log) }
-        ensures ok { (s : StoredGroup) → L.is_sound self.old.log → ShowsBy M.rules L.is_sound L.answers L.leaves self.old.log self.old.recent group (s ∷ [])
+        ensures ok { (rules : MachineRules) (s : StoredGroup) → L.is_sound self.old.log → ShowsBy rules L.is_sound L.answers L.leaves self.old.log self.old.recent group (s ∷ [])
             → IfOk result (λ loaded. IsLoaded loaded s) }
-        ensures cause { (s : StoredGroup) → L.is_sound self.old.log → ShowsBy M.rules L.is_sound L.answers L.leaves self.old.log self.old.recent group (s ∷ [])
+        ensures cause { (rules : MachineRules) (s : StoredGroup) → L.is_sound self.old.log → ShowsBy rules L.is_sound L.answers L.leaves self.old.log self.old.recent group (s ∷ [])
             → IfErr result (IsLogOrMemory L.is_misuse) }
-        ensures kept { KeepsAll (ShowsBy M.rules L.is_sound L.answers L.leaves self.old.log self.old.recent) (ShowsBy M.rules L.is_sound L.answers L.leaves self.new.log self.new.recent) }
+        ensures kept { (rules : MachineRules) → KeepsAll (ShowsBy rules L.is_sound L.answers L.leaves self.old.log self.old.recent) (ShowsBy rules L.is_sound L.answers L.leaves self.new.log self.new.recent) }
         ensures met { L.meets self.old.log self.new.log (option_and_then log_fault (result_err result)) }
+        ensures refused { self.new.refused ≡ self.old.refused }
     {
         let bounds = self.bounds(group)?;
         let present = self.is_present(group)?;
@@ -244,14 +254,17 @@ impl<M: StateMachine, L: ContentLog> Store<M, L> {
         })
     }
 
-    /// The ids of the groups that the node has, rising (own).
+    /// The ids of the groups that the node has, rising (own). It fails by a fault of the log that
+    /// tells of no misuse, or for want of memory.
     pub fn groups(&mut self, alloc: Global) -> Result<Vec<u64>, StoreFault<L::Fault>>
         ensures well { L.is_sound self.old.log → OnOk result (L.is_sound self.new.log) }
         ensures rising { L.is_sound self.old.log → IfOk result (λ ids. IsStrictlySortedBy nat_cmp ids.items) }
-        ensures ok { (group : ℕ) (s : StoredGroup) → L.is_sound self.old.log → ShowsBy M.rules L.is_sound L.answers L.leaves self.old.log self.old.recent group (s ∷ [])
+        ensures ok { (rules : MachineRules) (group : ℕ) (s : StoredGroup) → L.is_sound self.old.log → ShowsBy rules L.is_sound L.answers L.leaves self.old.log self.old.recent group (s ∷ [])
             → IfOk result (λ ids. is_member (eq_by_cmp nat_cmp) ids.items group ≡ s.present) }
-        ensures kept { KeepsAll (ShowsBy M.rules L.is_sound L.answers L.leaves self.old.log self.old.recent) (ShowsBy M.rules L.is_sound L.answers L.leaves self.new.log self.new.recent) }
+        ensures cause { IfErr result (IsLogOrMemory L.is_misuse) }
+        ensures kept { (rules : MachineRules) → KeepsAll (ShowsBy rules L.is_sound L.answers L.leaves self.old.log self.old.recent) (ShowsBy rules L.is_sound L.answers L.leaves self.new.log self.new.recent) }
         ensures met { L.meets self.old.log self.new.log (option_and_then log_fault (result_err result)) }
+        ensures refused { self.new.refused ≡ self.old.refused }
     {
         let logged = self.logged_groups()?;
         self.made_among(alloc, logged)
@@ -264,9 +277,11 @@ impl<M: StateMachine, L: ContentLog> Store<M, L> {
         groups: Vec<u64>,
     ) -> Result<Vec<u64>, StoreFault<L::Fault>>
         ensures ids { L.is_sound self.old.log → IfOk result (λ ids. ids.items ≡ filter (λ group. is_some ((L.answers self.old.log group).value group_key)) groups.items) }
+        ensures cause { IfErr result (IsLogOrMemory L.is_misuse) }
         ensures well { L.is_sound self.old.log → OnOk result (L.is_sound self.new.log) }
-        ensures kept { KeepsAll (ShowsBy M.rules L.is_sound L.answers L.leaves self.old.log self.old.recent) (ShowsBy M.rules L.is_sound L.answers L.leaves self.new.log self.new.recent) }
+        ensures kept { (rules : MachineRules) → KeepsAll (ShowsBy rules L.is_sound L.answers L.leaves self.old.log self.old.recent) (ShowsBy rules L.is_sound L.answers L.leaves self.new.log self.new.recent) }
         ensures met { L.meets self.old.log self.new.log (option_and_then log_fault (result_err result)) }
+        ensures refused { self.new.refused ≡ self.old.refused }
     {
         let mut made = Vec::new(alloc);
         for group in groups {
@@ -282,10 +297,12 @@ impl<M: StateMachine, L: ContentLog> Store<M, L> {
         ensures rising { IfOk result (λ ids. IsStrictlySortedBy nat_cmp ids.items) }
         ensures there { L.is_sound self.old.log → IfOk result (λ ids. (group : ℕ) → (L.answers self.old.log group).there ≡ is_member (eq_by_cmp nat_cmp) ids.items group) }
         ensures none { L.is_sound self.old.log → OnOk result ((group : ℕ) → (L.answers self.old.log group).there ≡ false → L.answers self.old.log group ≡ no_group) }
+        ensures cause { IfErr result (IsLogOrMemory L.is_misuse) }
         ensures well { L.is_sound self.old.log → OnOk result (L.is_sound self.new.log) }
         ensures steady { L.is_sound self.new.log → L.is_sound self.old.log × (L.answers self.new.log ≡ L.answers self.old.log) }
-        ensures kept { KeepsAll (ShowsBy M.rules L.is_sound L.answers L.leaves self.old.log self.old.recent) (ShowsBy M.rules L.is_sound L.answers L.leaves self.new.log self.new.recent) }
+        ensures kept { (rules : MachineRules) → KeepsAll (ShowsBy rules L.is_sound L.answers L.leaves self.old.log self.old.recent) (ShowsBy rules L.is_sound L.answers L.leaves self.new.log self.new.recent) }
         ensures met { L.meets self.old.log self.new.log (option_and_then log_fault (result_err result)) }
+        ensures refused { self.new.refused ≡ self.old.refused }
     {
         match self.log.groups() {
             Ok(groups) => Ok(groups),

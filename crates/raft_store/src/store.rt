@@ -5,17 +5,19 @@ ghost use Rattle.raft_group_step.specs.StoredGroup.{Snapshot, StoredGroup};
 ghost use Rattle.raft_group_step.specs.StoredGroup.{CutFrom, MakeGroup, PutEntries, RemoveUpTo, SetSnapshot, SetVote, StartAfter};
 ghost use Rattle.raft_content_log.specs.Leaving.{LeavesOnly};
 ghost use Rattle.raft_group_step.specs.GroupState.{no_group};
-ghost use Rattle.raft_group_storage.specs.Keeping.{KeepsOthers, MayStore, Stores};
+ghost use Rattle.raft_group_storage.specs.Keeping.{KeepsOthers, Stores};
 ghost use Rattle.raft_log_memtables.specs.Content.{nothing};
 ghost use Rattle.raft_log_records.specs.Item.{Change};
-ghost use Rattle.raft_store.specs.Batches.{Carries, ShowsBy, of_group};
-ghost use Rattle.raft_store.specs.Faults.{IsNoMisuse, log_fault};
+ghost use Rattle.raft_store.specs.Batches.{Carries, MayHaveStored, ShowsBy, of_group};
+ghost use Rattle.raft_store.specs.Faults.{IsLogOrMemory, IsNoMisuse, log_fault};
+ghost use Rattle.raft_machines.specs.Machine.{MachineRules};
 ghost use Rattle.raft_store.specs.Reading.{HoldsOne, StandsFor};
+ghost use Rattle.raft_store.specs.Storable.{IsStorable};
 
 use crate::batches::{
     end_batch, entry_batch, make_batch, removal_batch, snapshot_batch, start_batch, vote_batch,
 };
-use crate::fault::StoreFault;
+use crate::fault::{StoreFault, StoreRefusal};
 use crate::recent::Recent;
 use raft_content_log::ContentLog;
 use raft_log_records::LogBatch;
@@ -33,6 +35,10 @@ pub struct Store<M: StateMachine, L: ContentLog> {
     pub(crate) log: L,
     /// The entries that were put last, if nothing was stored since then.
     pub(crate) recent: Option<Recent>,
+    /// Why the storage refused a call, if it did: the last one that it refused.
+    pub(crate) refused: Option<StoreRefusal>,
+    /// Whether a cleaning of the log failed. No log says of that fault that it tells of no misuse.
+    pub(crate) failed_cleaning: bool,
     of: PhantomData<M>,
 }
 
@@ -42,6 +48,7 @@ impl<M: StateMachine, L: ContentLog> Store<M, L> {
     /// nothing the node has no group.
     pub fn new(alloc: Global, log: L) -> Store<M, L>
         ensures log { result.log ≡ log }
+        ensures refused { result.refused ≡ None }
         ensures shown { (group : ℕ) (parts : List StoredGroup) → LeavesOnly (L.leaves log) (L.answers log) → HoldsOne M.rules (L.answers log group) parts
             → ShowsBy M.rules L.is_sound L.answers L.leaves result.log result.recent group parts }
         ensures none { (group : ℕ) → LeavesOnly (L.leaves log) (L.answers log) → L.answers log ≡ nothing
@@ -51,6 +58,8 @@ impl<M: StateMachine, L: ContentLog> Store<M, L> {
             alloc,
             log,
             recent: None,
+            refused: None,
+            failed_cleaning: false,
             of: PhantomData,
         }
     }
@@ -72,19 +81,23 @@ impl<M: StateMachine, L: ContentLog> Store<M, L> {
     // Writes a batch of one group's changes. No entries are remembered then.
     fn store(&mut self, batch: &mut LogBatch) -> Result<(), StoreFault<L::Fault>>
         ensures well { L.is_sound self.old.log → OnOk result (L.is_sound self.new.log) }
-        ensures ok { (group : ℕ) (changes : List (Change (List ℕ))) (s t : StoredGroup) → batch.old.items ≡ of_group group changes → Carries M.rules changes s t
-            → L.is_sound self.old.log → ShowsBy M.rules L.is_sound L.answers L.leaves self.old.log self.old.recent group (s ∷ [])
-            → OnOk result (ShowsBy M.rules L.is_sound L.answers L.leaves self.new.log self.new.recent group (t ∷ [])) }
-        ensures err { (group : ℕ) (changes : List (Change (List ℕ))) (s t : StoredGroup) → batch.old.items ≡ of_group group changes → Carries M.rules changes s t
-            → L.is_sound self.old.log → ShowsBy M.rules L.is_sound L.answers L.leaves self.old.log self.old.recent group (s ∷ [])
-            → OnErr result (ShowsBy M.rules L.is_sound L.answers L.leaves self.new.log self.new.recent group (s ∷ t ∷ [])) }
-        ensures others { (group : ℕ) (changes : List (Change (List ℕ))) → batch.old.items ≡ of_group group changes
-            → KeepsOthers (ShowsBy M.rules L.is_sound L.answers L.leaves self.old.log self.old.recent) (ShowsBy M.rules L.is_sound L.answers L.leaves self.new.log self.new.recent) group }
+        ensures ok { (rules : MachineRules) (group : ℕ) (changes : List (Change (List ℕ))) (s t : StoredGroup) → batch.old.items ≡ of_group group changes → Carries rules changes s t
+            → L.is_sound self.old.log → ShowsBy rules L.is_sound L.answers L.leaves self.old.log self.old.recent group (s ∷ [])
+            → OnOk result (ShowsBy rules L.is_sound L.answers L.leaves self.new.log self.new.recent group (t ∷ [])) }
+        ensures err { (rules : MachineRules) (group : ℕ) (changes : List (Change (List ℕ))) (s t : StoredGroup) → batch.old.items ≡ of_group group changes → Carries rules changes s t
+            → L.is_sound self.old.log → ShowsBy rules L.is_sound L.answers L.leaves self.old.log self.old.recent group (s ∷ [])
+            → OnErr result (ShowsBy rules L.is_sound L.answers L.leaves self.new.log self.new.recent group (s ∷ t ∷ [])) }
+        ensures others { (rules : MachineRules) (group : ℕ) (changes : List (Change (List ℕ))) → batch.old.items ≡ of_group group changes
+            → KeepsOthers (ShowsBy rules L.is_sound L.answers L.leaves self.old.log self.old.recent) (ShowsBy rules L.is_sound L.answers L.leaves self.new.log self.new.recent) group }
         ensures forgets { self.new.recent ≡ None }
+        ensures refused { self.new.refused ≡ self.old.refused }
         ensures met { L.meets self.old.log self.new.log (option_and_then log_fault (result_err result)) }
-        ensures fits { (group : ℕ) (changes : List (Change (List ℕ))) (s t : StoredGroup) → batch.old.items ≡ of_group group changes → Carries M.rules changes s t
-            → L.is_sound self.old.log → ShowsBy M.rules L.is_sound L.answers L.leaves self.old.log self.old.recent group (s ∷ [])
+        ensures fits { (rules : MachineRules) (group : ℕ) (changes : List (Change (List ℕ))) (s t : StoredGroup) → batch.old.items ≡ of_group group changes → Carries rules changes s t
+            → L.is_sound self.old.log → ShowsBy rules L.is_sound L.answers L.leaves self.old.log self.old.recent group (s ∷ [])
             → IfErr result (IsNoMisuse L.is_misuse) }
+        ensures takes { (rules : MachineRules) (group : ℕ) (changes : List (Change (List ℕ))) (s t : StoredGroup) → batch.old.items ≡ of_group group changes → Carries rules changes s t
+            → L.is_sound self.old.log → ShowsBy rules L.is_sound L.answers L.leaves self.old.log self.old.recent group (s ∷ [])
+            → IfErr result (IsLogOrMemory L.is_misuse) }
     {
         self.recent = None;
         match self.log.write(batch) {
@@ -93,68 +106,82 @@ impl<M: StateMachine, L: ContentLog> Store<M, L> {
         }
     }
 
-    /// The node has the group from now on (own).
+    /// The node has the group from now on (own). Refused for want of memory alone.
     pub fn make_group(&mut self, group: u64) -> Result<(), StoreFault<L::Fault>>
         ensures well { L.is_sound self.old.log → OnOk result (L.is_sound self.new.log) }
-        ensures ok { L.is_sound self.old.log
-            → OnOk result (Stores (ShowsBy M.rules L.is_sound L.answers L.leaves self.old.log self.old.recent)
-            (ShowsBy M.rules L.is_sound L.answers L.leaves self.new.log self.new.recent) group MakeGroup) }
-        ensures err { L.is_sound self.old.log
-            → OnErr result (MayStore (ShowsBy M.rules L.is_sound L.answers L.leaves self.old.log self.old.recent)
-            (ShowsBy M.rules L.is_sound L.answers L.leaves self.new.log self.new.recent) group MakeGroup) }
-        ensures others { KeepsOthers (ShowsBy M.rules L.is_sound L.answers L.leaves self.old.log self.old.recent)
-            (ShowsBy M.rules L.is_sound L.answers L.leaves self.new.log self.new.recent) group }
+        ensures ok { (rules : MachineRules) → L.is_sound self.old.log
+            → OnOk result (Stores (ShowsBy rules L.is_sound L.answers L.leaves self.old.log self.old.recent)
+            (ShowsBy rules L.is_sound L.answers L.leaves self.new.log self.new.recent) group MakeGroup) }
+        ensures err { (rules : MachineRules) → L.is_sound self.old.log
+            → OnErr result (MayHaveStored (ShowsBy rules L.is_sound L.answers L.leaves self.old.log self.old.recent)
+            (ShowsBy rules L.is_sound L.answers L.leaves self.new.log self.new.recent) group MakeGroup) }
+        ensures others { (rules : MachineRules) → KeepsOthers (ShowsBy rules L.is_sound L.answers L.leaves self.old.log self.old.recent)
+            (ShowsBy rules L.is_sound L.answers L.leaves self.new.log self.new.recent) group }
         ensures met { L.meets self.old.log self.new.log (option_and_then log_fault (result_err result)) }
-        ensures fits { (s : StoredGroup) → L.is_sound self.old.log → ShowsBy M.rules L.is_sound L.answers L.leaves self.old.log self.old.recent group (s ∷ [])
+        ensures fits { (rules : MachineRules) (s : StoredGroup) → L.is_sound self.old.log → ShowsBy rules L.is_sound L.answers L.leaves self.old.log self.old.recent group (s ∷ [])
             → IfErr result (IsNoMisuse L.is_misuse) }
+        ensures takes { (rules : MachineRules) (s : StoredGroup) → L.is_sound self.old.log → ShowsBy rules L.is_sound L.answers L.leaves self.old.log self.old.recent group (s ∷ [])
+            → IsStorable rules s MakeGroup → IfErr result (IsLogOrMemory L.is_misuse) }
+        ensures refused { self.new.refused ≡ self.old.refused }
     {
         let mut batch = make_batch(self.alloc, group)?;
         self.store(&mut batch)
     }
 
-    /// The vote takes the place of the one before (own).
+    /// The vote takes the place of the one before (own). Refused for want of memory alone.
     pub fn set_vote(&mut self, group: u64, vote: Vote<u64>) -> Result<(), StoreFault<L::Fault>>
         ensures well { L.is_sound self.old.log → OnOk result (L.is_sound self.new.log) }
-        ensures ok { L.is_sound self.old.log
-            → OnOk result (Stores (ShowsBy M.rules L.is_sound L.answers L.leaves self.old.log self.old.recent)
-            (ShowsBy M.rules L.is_sound L.answers L.leaves self.new.log self.new.recent) group (SetVote vote)) }
-        ensures err { L.is_sound self.old.log
-            → OnErr result (MayStore (ShowsBy M.rules L.is_sound L.answers L.leaves self.old.log self.old.recent)
-            (ShowsBy M.rules L.is_sound L.answers L.leaves self.new.log self.new.recent) group (SetVote vote)) }
-        ensures others { KeepsOthers (ShowsBy M.rules L.is_sound L.answers L.leaves self.old.log self.old.recent)
-            (ShowsBy M.rules L.is_sound L.answers L.leaves self.new.log self.new.recent) group }
+        ensures ok { (rules : MachineRules) → L.is_sound self.old.log
+            → OnOk result (Stores (ShowsBy rules L.is_sound L.answers L.leaves self.old.log self.old.recent)
+            (ShowsBy rules L.is_sound L.answers L.leaves self.new.log self.new.recent) group (SetVote vote)) }
+        ensures err { (rules : MachineRules) → L.is_sound self.old.log
+            → OnErr result (MayHaveStored (ShowsBy rules L.is_sound L.answers L.leaves self.old.log self.old.recent)
+            (ShowsBy rules L.is_sound L.answers L.leaves self.new.log self.new.recent) group (SetVote vote)) }
+        ensures others { (rules : MachineRules) → KeepsOthers (ShowsBy rules L.is_sound L.answers L.leaves self.old.log self.old.recent)
+            (ShowsBy rules L.is_sound L.answers L.leaves self.new.log self.new.recent) group }
         ensures met { L.meets self.old.log self.new.log (option_and_then log_fault (result_err result)) }
-        ensures fits { (s : StoredGroup) → L.is_sound self.old.log → ShowsBy M.rules L.is_sound L.answers L.leaves self.old.log self.old.recent group (s ∷ [])
+        ensures fits { (rules : MachineRules) (s : StoredGroup) → L.is_sound self.old.log → ShowsBy rules L.is_sound L.answers L.leaves self.old.log self.old.recent group (s ∷ [])
             → IfErr result (IsNoMisuse L.is_misuse) }
+        ensures takes { (rules : MachineRules) (s : StoredGroup) → L.is_sound self.old.log → ShowsBy rules L.is_sound L.answers L.leaves self.old.log self.old.recent group (s ∷ [])
+            → IsStorable rules s (SetVote vote) → IfErr result (IsLogOrMemory L.is_misuse) }
+        ensures refused { self.new.refused ≡ self.old.refused }
     {
         let mut batch = vote_batch(self.alloc, group, vote)?;
         self.store(&mut batch)
     }
 
-    /// A copy of the snapshot takes the place of the one before (own).
+    /// A copy of the snapshot takes the place of the one before (own). Refused are a membership and
+    /// bytes of the machine past their limits (`Value`), and want of memory.
     pub fn set_snapshot(
         &mut self,
         group: u64,
         snapshot: &SnapshotBytes,
     ) -> Result<(), StoreFault<L::Fault>>
         ensures well { L.is_sound self.old.log → OnOk result (L.is_sound self.new.log) }
-        ensures ok { (x : Snapshot) → L.is_sound self.old.log → StandsFor M.rules snapshot.now x
-            → OnOk result (Stores (ShowsBy M.rules L.is_sound L.answers L.leaves self.old.log self.old.recent)
-            (ShowsBy M.rules L.is_sound L.answers L.leaves self.new.log self.new.recent) group (SetSnapshot x)) }
-        ensures err { (x : Snapshot) → L.is_sound self.old.log → StandsFor M.rules snapshot.now x
-            → OnErr result (MayStore (ShowsBy M.rules L.is_sound L.answers L.leaves self.old.log self.old.recent)
-            (ShowsBy M.rules L.is_sound L.answers L.leaves self.new.log self.new.recent) group (SetSnapshot x)) }
-        ensures others { KeepsOthers (ShowsBy M.rules L.is_sound L.answers L.leaves self.old.log self.old.recent)
-            (ShowsBy M.rules L.is_sound L.answers L.leaves self.new.log self.new.recent) group }
+        ensures ok { (rules : MachineRules) (x : Snapshot) → L.is_sound self.old.log → StandsFor rules snapshot.now x
+            → OnOk result (Stores (ShowsBy rules L.is_sound L.answers L.leaves self.old.log self.old.recent)
+            (ShowsBy rules L.is_sound L.answers L.leaves self.new.log self.new.recent) group (SetSnapshot x)) }
+        ensures err { (rules : MachineRules) (x : Snapshot) → L.is_sound self.old.log → StandsFor rules snapshot.now x
+            → OnErr result (MayHaveStored (ShowsBy rules L.is_sound L.answers L.leaves self.old.log self.old.recent)
+            (ShowsBy rules L.is_sound L.answers L.leaves self.new.log self.new.recent) group (SetSnapshot x)) }
+        ensures others { (rules : MachineRules) → KeepsOthers (ShowsBy rules L.is_sound L.answers L.leaves self.old.log self.old.recent)
+            (ShowsBy rules L.is_sound L.answers L.leaves self.new.log self.new.recent) group }
         ensures met { L.meets self.old.log self.new.log (option_and_then log_fault (result_err result)) }
-        ensures fits { (s : StoredGroup) (x : Snapshot) → L.is_sound self.old.log → StandsFor M.rules snapshot.now x
-            → ShowsBy M.rules L.is_sound L.answers L.leaves self.old.log self.old.recent group (s ∷ []) → IfErr result (IsNoMisuse L.is_misuse) }
+        ensures fits { (rules : MachineRules) (s : StoredGroup) (x : Snapshot) → L.is_sound self.old.log → StandsFor rules snapshot.now x
+            → ShowsBy rules L.is_sound L.answers L.leaves self.old.log self.old.recent group (s ∷ []) → IfErr result (IsNoMisuse L.is_misuse) }
+        ensures takes { (rules : MachineRules) (s : StoredGroup) (x : Snapshot) → L.is_sound self.old.log → StandsFor rules snapshot.now x
+            → ShowsBy rules L.is_sound L.answers L.leaves self.old.log self.old.recent group (s ∷ []) → IsStorable rules s (SetSnapshot x) → IfErr result (IsLogOrMemory L.is_misuse) }
+        ensures refused { self.new.refused ≡ self.old.refused }
     {
         let mut batch = snapshot_batch(self.alloc, group, snapshot)?;
         self.store(&mut batch)
     }
 
     /// Copies of the entries stand from the place on, and whatever stood there before is gone (own).
+    /// Refused are, in this order, a place below the log's first one or past its end (`Gap`), entries
+    /// with no numbered place behind them (`NoPlace`), a command or a membership past its limits
+    /// (`Value`), and more bytes than a record has (`TooLong`); and want of memory at any time. As
+    /// many entries as a request has, within their limits, are never too long.
     pub fn put_entries(
         &mut self,
         group: u64,
@@ -162,17 +189,20 @@ impl<M: StateMachine, L: ContentLog> Store<M, L> {
         entries: &[GroupEntry],
     ) -> Result<(), StoreFault<L::Fault>>
         ensures well { L.is_sound self.old.log → OnOk result (L.is_sound self.new.log) }
-        ensures ok { L.is_sound self.old.log
-            → OnOk result (Stores (ShowsBy M.rules L.is_sound L.answers L.leaves self.old.log self.old.recent)
-            (ShowsBy M.rules L.is_sound L.answers L.leaves self.new.log self.new.recent) group (PutEntries place entries.now)) }
-        ensures err { L.is_sound self.old.log
-            → OnErr result (MayStore (ShowsBy M.rules L.is_sound L.answers L.leaves self.old.log self.old.recent)
-            (ShowsBy M.rules L.is_sound L.answers L.leaves self.new.log self.new.recent) group (PutEntries place entries.now)) }
-        ensures others { KeepsOthers (ShowsBy M.rules L.is_sound L.answers L.leaves self.old.log self.old.recent)
-            (ShowsBy M.rules L.is_sound L.answers L.leaves self.new.log self.new.recent) group }
+        ensures ok { (rules : MachineRules) → L.is_sound self.old.log
+            → OnOk result (Stores (ShowsBy rules L.is_sound L.answers L.leaves self.old.log self.old.recent)
+            (ShowsBy rules L.is_sound L.answers L.leaves self.new.log self.new.recent) group (PutEntries place entries.now)) }
+        ensures err { (rules : MachineRules) → L.is_sound self.old.log
+            → OnErr result (MayHaveStored (ShowsBy rules L.is_sound L.answers L.leaves self.old.log self.old.recent)
+            (ShowsBy rules L.is_sound L.answers L.leaves self.new.log self.new.recent) group (PutEntries place entries.now)) }
+        ensures others { (rules : MachineRules) → KeepsOthers (ShowsBy rules L.is_sound L.answers L.leaves self.old.log self.old.recent)
+            (ShowsBy rules L.is_sound L.answers L.leaves self.new.log self.new.recent) group }
         ensures met { L.meets self.old.log self.new.log (option_and_then log_fault (result_err result)) }
-        ensures fits { (s : StoredGroup) → L.is_sound self.old.log → ShowsBy M.rules L.is_sound L.answers L.leaves self.old.log self.old.recent group (s ∷ [])
+        ensures fits { (rules : MachineRules) (s : StoredGroup) → L.is_sound self.old.log → ShowsBy rules L.is_sound L.answers L.leaves self.old.log self.old.recent group (s ∷ [])
             → IfErr result (IsNoMisuse L.is_misuse) }
+        ensures takes { (rules : MachineRules) (s : StoredGroup) → L.is_sound self.old.log → ShowsBy rules L.is_sound L.answers L.leaves self.old.log self.old.recent group (s ∷ [])
+            → IsStorable rules s (PutEntries place entries.now) → IfErr result (IsLogOrMemory L.is_misuse) }
+        ensures refused { self.new.refused ≡ self.old.refused }
     {
         let bounds = self.bounds(group)?;
         bounds.check_place(place)?;
@@ -182,40 +212,48 @@ impl<M: StateMachine, L: ContentLog> Store<M, L> {
         Ok(())
     }
 
-    /// The log ends below the place (own).
+    /// The log ends below the place (own). Refused for want of memory alone, where the store is well.
     pub fn cut_from(&mut self, group: u64, place: u64) -> Result<(), StoreFault<L::Fault>>
         ensures well { L.is_sound self.old.log → OnOk result (L.is_sound self.new.log) }
-        ensures ok { L.is_sound self.old.log
-            → OnOk result (Stores (ShowsBy M.rules L.is_sound L.answers L.leaves self.old.log self.old.recent)
-            (ShowsBy M.rules L.is_sound L.answers L.leaves self.new.log self.new.recent) group (CutFrom place)) }
-        ensures err { L.is_sound self.old.log
-            → OnErr result (MayStore (ShowsBy M.rules L.is_sound L.answers L.leaves self.old.log self.old.recent)
-            (ShowsBy M.rules L.is_sound L.answers L.leaves self.new.log self.new.recent) group (CutFrom place)) }
-        ensures others { KeepsOthers (ShowsBy M.rules L.is_sound L.answers L.leaves self.old.log self.old.recent)
-            (ShowsBy M.rules L.is_sound L.answers L.leaves self.new.log self.new.recent) group }
+        ensures ok { (rules : MachineRules) → L.is_sound self.old.log
+            → OnOk result (Stores (ShowsBy rules L.is_sound L.answers L.leaves self.old.log self.old.recent)
+            (ShowsBy rules L.is_sound L.answers L.leaves self.new.log self.new.recent) group (CutFrom place)) }
+        ensures err { (rules : MachineRules) → L.is_sound self.old.log
+            → OnErr result (MayHaveStored (ShowsBy rules L.is_sound L.answers L.leaves self.old.log self.old.recent)
+            (ShowsBy rules L.is_sound L.answers L.leaves self.new.log self.new.recent) group (CutFrom place)) }
+        ensures others { (rules : MachineRules) → KeepsOthers (ShowsBy rules L.is_sound L.answers L.leaves self.old.log self.old.recent)
+            (ShowsBy rules L.is_sound L.answers L.leaves self.new.log self.new.recent) group }
         ensures met { L.meets self.old.log self.new.log (option_and_then log_fault (result_err result)) }
-        ensures fits { (s : StoredGroup) → L.is_sound self.old.log → ShowsBy M.rules L.is_sound L.answers L.leaves self.old.log self.old.recent group (s ∷ [])
+        ensures fits { (rules : MachineRules) (s : StoredGroup) → L.is_sound self.old.log → ShowsBy rules L.is_sound L.answers L.leaves self.old.log self.old.recent group (s ∷ [])
             → IfErr result (IsNoMisuse L.is_misuse) }
+        ensures takes { (rules : MachineRules) (s : StoredGroup) → L.is_sound self.old.log → ShowsBy rules L.is_sound L.answers L.leaves self.old.log self.old.recent group (s ∷ [])
+            → IsStorable rules s (CutFrom place) → IfErr result (IsLogOrMemory L.is_misuse) }
+        ensures refused { self.new.refused ≡ self.old.refused }
     {
         let bounds = self.bounds(group)?;
         let mut batch = end_batch(self.alloc, group, bounds.cut_end(place))?;
         self.store(&mut batch)
     }
 
-    /// The log is empty, and goes on right behind the log id (own).
+    /// The log is empty, and goes on right behind the log id (own). Refused are a log id before the
+    /// one up to which the log is purged (`BelowPurge`), one with no numbered place behind it
+    /// (`NoPlace`), and want of memory.
     pub fn start_after(&mut self, group: u64, id: LogId<u64>) -> Result<(), StoreFault<L::Fault>>
         ensures well { L.is_sound self.old.log → OnOk result (L.is_sound self.new.log) }
-        ensures ok { L.is_sound self.old.log
-            → OnOk result (Stores (ShowsBy M.rules L.is_sound L.answers L.leaves self.old.log self.old.recent)
-            (ShowsBy M.rules L.is_sound L.answers L.leaves self.new.log self.new.recent) group (StartAfter id)) }
-        ensures err { L.is_sound self.old.log
-            → OnErr result (MayStore (ShowsBy M.rules L.is_sound L.answers L.leaves self.old.log self.old.recent)
-            (ShowsBy M.rules L.is_sound L.answers L.leaves self.new.log self.new.recent) group (StartAfter id)) }
-        ensures others { KeepsOthers (ShowsBy M.rules L.is_sound L.answers L.leaves self.old.log self.old.recent)
-            (ShowsBy M.rules L.is_sound L.answers L.leaves self.new.log self.new.recent) group }
+        ensures ok { (rules : MachineRules) → L.is_sound self.old.log
+            → OnOk result (Stores (ShowsBy rules L.is_sound L.answers L.leaves self.old.log self.old.recent)
+            (ShowsBy rules L.is_sound L.answers L.leaves self.new.log self.new.recent) group (StartAfter id)) }
+        ensures err { (rules : MachineRules) → L.is_sound self.old.log
+            → OnErr result (MayHaveStored (ShowsBy rules L.is_sound L.answers L.leaves self.old.log self.old.recent)
+            (ShowsBy rules L.is_sound L.answers L.leaves self.new.log self.new.recent) group (StartAfter id)) }
+        ensures others { (rules : MachineRules) → KeepsOthers (ShowsBy rules L.is_sound L.answers L.leaves self.old.log self.old.recent)
+            (ShowsBy rules L.is_sound L.answers L.leaves self.new.log self.new.recent) group }
         ensures met { L.meets self.old.log self.new.log (option_and_then log_fault (result_err result)) }
-        ensures fits { (s : StoredGroup) → L.is_sound self.old.log → ShowsBy M.rules L.is_sound L.answers L.leaves self.old.log self.old.recent group (s ∷ [])
+        ensures fits { (rules : MachineRules) (s : StoredGroup) → L.is_sound self.old.log → ShowsBy rules L.is_sound L.answers L.leaves self.old.log self.old.recent group (s ∷ [])
             → IfErr result (IsNoMisuse L.is_misuse) }
+        ensures takes { (rules : MachineRules) (s : StoredGroup) → L.is_sound self.old.log → ShowsBy rules L.is_sound L.answers L.leaves self.old.log self.old.recent group (s ∷ [])
+            → IsStorable rules s (StartAfter id) → IfErr result (IsLogOrMemory L.is_misuse) }
+        ensures refused { self.new.refused ≡ self.old.refused }
     {
         let bounds = self.bounds(group)?;
         bounds.check_purge(id)?;
@@ -223,20 +261,25 @@ impl<M: StateMachine, L: ContentLog> Store<M, L> {
         self.store(&mut batch)
     }
 
-    /// The log is purged up to and with the log id's place (own).
+    /// The log is purged up to and with the log id's place (own). Refused are a log id before the one
+    /// up to which it is purged (`BelowPurge`), one with no numbered place behind it (`NoPlace`), and
+    /// want of memory.
     pub fn remove_up_to(&mut self, group: u64, id: LogId<u64>) -> Result<(), StoreFault<L::Fault>>
         ensures well { L.is_sound self.old.log → OnOk result (L.is_sound self.new.log) }
-        ensures ok { L.is_sound self.old.log
-            → OnOk result (Stores (ShowsBy M.rules L.is_sound L.answers L.leaves self.old.log self.old.recent)
-            (ShowsBy M.rules L.is_sound L.answers L.leaves self.new.log self.new.recent) group (RemoveUpTo id)) }
-        ensures err { L.is_sound self.old.log
-            → OnErr result (MayStore (ShowsBy M.rules L.is_sound L.answers L.leaves self.old.log self.old.recent)
-            (ShowsBy M.rules L.is_sound L.answers L.leaves self.new.log self.new.recent) group (RemoveUpTo id)) }
-        ensures others { KeepsOthers (ShowsBy M.rules L.is_sound L.answers L.leaves self.old.log self.old.recent)
-            (ShowsBy M.rules L.is_sound L.answers L.leaves self.new.log self.new.recent) group }
+        ensures ok { (rules : MachineRules) → L.is_sound self.old.log
+            → OnOk result (Stores (ShowsBy rules L.is_sound L.answers L.leaves self.old.log self.old.recent)
+            (ShowsBy rules L.is_sound L.answers L.leaves self.new.log self.new.recent) group (RemoveUpTo id)) }
+        ensures err { (rules : MachineRules) → L.is_sound self.old.log
+            → OnErr result (MayHaveStored (ShowsBy rules L.is_sound L.answers L.leaves self.old.log self.old.recent)
+            (ShowsBy rules L.is_sound L.answers L.leaves self.new.log self.new.recent) group (RemoveUpTo id)) }
+        ensures others { (rules : MachineRules) → KeepsOthers (ShowsBy rules L.is_sound L.answers L.leaves self.old.log self.old.recent)
+            (ShowsBy rules L.is_sound L.answers L.leaves self.new.log self.new.recent) group }
         ensures met { L.meets self.old.log self.new.log (option_and_then log_fault (result_err result)) }
-        ensures fits { (s : StoredGroup) → L.is_sound self.old.log → ShowsBy M.rules L.is_sound L.answers L.leaves self.old.log self.old.recent group (s ∷ [])
+        ensures fits { (rules : MachineRules) (s : StoredGroup) → L.is_sound self.old.log → ShowsBy rules L.is_sound L.answers L.leaves self.old.log self.old.recent group (s ∷ [])
             → IfErr result (IsNoMisuse L.is_misuse) }
+        ensures takes { (rules : MachineRules) (s : StoredGroup) → L.is_sound self.old.log → ShowsBy rules L.is_sound L.answers L.leaves self.old.log self.old.recent group (s ∷ [])
+            → IsStorable rules s (RemoveUpTo id) → IfErr result (IsLogOrMemory L.is_misuse) }
+        ensures refused { self.new.refused ≡ self.old.refused }
     {
         let bounds = self.bounds(group)?;
         bounds.check_purge(id)?;

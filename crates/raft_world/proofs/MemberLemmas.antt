@@ -10,7 +10,7 @@ use Rattle.raft_group_step.specs.GroupEvent.{GroupEvent}
 use Rattle.raft_group_step.specs.GroupStep.{group_step}
 use Rattle.raft_engine.specs.Building.{IsSnapshotOfApplied}
 use Rattle.raft_engine.specs.Standing.{IsStateOf}
-use Rattle.raft_group_storage.specs.Keeping.{KeepsAll}
+use Rattle.raft_group_storage.specs.Keeping.{Fails, KeepsAll}
 use Rattle.raft_group_storage.specs.Plain.{IsOnly}
 use Rattle.raft_group_storage.specs.declared.only_group.TheConstants.{ONLY_GROUP}
 use Rattle.raft_executor.specs.Said.{Says, SaysBody}
@@ -39,8 +39,8 @@ module _ (own : ℕ) (s : GroupState) (e : GroupEvent) (m : Member) where
   ended_plain stop ended.Skipped h = absurd h
 
   -- it stopped after so many storing commands, or one more
-  pub stopped_plain : s.stored.present ≡ true → over.HasStopped (IsOnly m.stored ONLY_GROUP) own s e m.replica → HasStopped own s e m
-  stopped_plain present h = elim h.stored.1 [ inl is ↦ after h.number is | inr more ↦ elim more [ inl is ↦ after (h.number + 1) is | inr miss ↦ absurd miss ] ]
+  pub stopped_plain : (fails : Fails) → s.stored.present ≡ true → over.HasStopped (IsOnly m.stored ONLY_GROUP) fails own s e m.replica → HasStopped own s e m
+  stopped_plain fails present h = elim h.stored.1 [ inl is ↦ after h.number is | inr more ↦ elim more [ inl is ↦ after (h.number + 1) is | inr miss ↦ absurd miss ] ]
     where
       after : (k : ℕ) → m.stored ≡ stopped_after k s.stored (group_step own s e) → HasStopped own s e m
       after k is = record {
@@ -55,9 +55,9 @@ module _ (own : ℕ) (s : GroupState) (e : GroupEvent) (m : Member) where
       }
 
   -- or it met want of memory
-  pub broken_plain : s.stored.present ≡ true → (met : Broken) → over.HasBrokenOff (Unit {0}) (IsOnly m.stored ONLY_GROUP) own s e m.replica met → HasBrokenOff own s e m met
-  broken_plain present (broken.Unjudged met) h = h
-  broken_plain present (broken.Begun met) h = stopped_plain present h
+  pub broken_plain : (fails : Fails) → s.stored.present ≡ true → (met : Broken) → over.HasBrokenOff (Unit {0}) (IsOnly m.stored ONLY_GROUP) fails own s e m.replica met → HasBrokenOff own s e m met
+  broken_plain fails present (broken.Unjudged met) h = h
+  broken_plain fails present (broken.Begun met) h = stopped_plain fails present h
 
 -- ---- a member to which nothing happened
 

@@ -35,5 +35,5 @@ returns-in_err-room-clause-err g c = λ x given well.
     let before = c.loop-command.invariant.2 x given well in
     let next = next_given g.S.GroupStorage.stands _ x c.in-Some.command.now _ _ c.in-Some.ensures.steps before.0 in
     on_err _
-    (one_fails x _ c.loop-command.room c.in-Some.command.now _ _ _ _ _ c.args.group c.in-Some.ensures.steps before.1
+    (one_fails x _ c.loop-command.room c.in-Some.command.now _ _ _ _ _ _ c.args.group c.in-Some.ensures.steps before.1
     (c.in_err-room.ensures.err x next.0 (c.loop-command.invariant.0 well)))

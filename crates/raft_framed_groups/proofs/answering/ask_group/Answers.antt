@@ -11,7 +11,7 @@ use Rattle.raft_framed_groups.proofs.answering.ask_group.Goals as goal
 pub returns-in-Ok-clause-asked : goal.returns-in-Ok-clause-asked
 returns-in-Ok-clause-asked g c = record {
   taken = λ s going built up lawful.
-      taken_as (λ met member. HasBrokenOff (g.S.GroupStorage.is_well c.ask.new.self.storage) (g.S.GroupStorage.shows c.ask.new.self.storage c.args.group) c.args.groups.now.id s (Call c.args.call.now c.args.now) member met) g.S.GroupStorage.stands (record { own = c.args.groups.now.id; has_failed = c.ask.new.self.has_failed; members = get nat_cmp c.ask.new.self.members; is_well = g.S.GroupStorage.is_well c.ask.new.self.storage; shows = g.S.GroupStorage.shows c.ask.new.self.storage })
+      taken_as (λ met member. HasBrokenOff (g.S.GroupStorage.is_well c.ask.new.self.storage) (g.S.GroupStorage.shows c.ask.new.self.storage c.args.group) (g.S.GroupStorage.fails c.ask.new.self.storage) c.args.groups.now.id s (Call c.args.call.now c.args.now) member met) g.S.GroupStorage.stands (record { own = c.args.groups.now.id; has_failed = c.ask.new.self.has_failed; members = get nat_cmp c.ask.new.self.members; is_well = g.S.GroupStorage.is_well c.ask.new.self.storage; shows = g.S.GroupStorage.shows c.ask.new.self.storage; fails = g.S.GroupStorage.fails c.ask.new.self.storage })
       c.args.group s (Call c.args.call.now c.args.now) c.in-Ok.ended c.outcome_of.result
       (c.in-Ok.ensures.ok s going built up lawful) c.outcome_of.ensures.ended;
   of_group = record {

@@ -12,7 +12,7 @@ use Rattle.raft_framed_groups.proofs.answering.take_frame.Goals as goal
 pub returns-in-Ok-clause-takes : goal.returns-in-Ok-clause-takes
 returns-in-Ok-clause-takes g c = record {
   taken = λ m s going says up lawful.
-      taken_as (λ met member. HasBegun (HasStopped (g.S.GroupStorage.shows c.receive.new.self.storage c.args.frame.now.group) c.args.groups.now.id s (Receive c.args.frame.now.message.sender m c.args.now) member) met) g.S.GroupStorage.stands (record { own = c.args.groups.now.id; has_failed = c.receive.new.self.has_failed; members = get nat_cmp c.receive.new.self.members; is_well = g.S.GroupStorage.is_well c.receive.new.self.storage; shows = g.S.GroupStorage.shows c.receive.new.self.storage })
+      taken_as (λ met member. HasBegun (HasStopped (g.S.GroupStorage.shows c.receive.new.self.storage c.args.frame.now.group) (g.S.GroupStorage.fails c.receive.new.self.storage) c.args.groups.now.id s (Receive c.args.frame.now.message.sender m c.args.now) member) met) g.S.GroupStorage.stands (record { own = c.args.groups.now.id; has_failed = c.receive.new.self.has_failed; members = get nat_cmp c.receive.new.self.members; is_well = g.S.GroupStorage.is_well c.receive.new.self.storage; shows = g.S.GroupStorage.shows c.receive.new.self.storage; fails = g.S.GroupStorage.fails c.receive.new.self.storage })
       c.args.frame.now.group s (Receive c.args.frame.now.message.sender m c.args.now) c.in-Ok.ended c.outcome_of.result
       (c.in-Ok.ensures.ok m s going says up lawful) c.outcome_of.ensures.ended;
   of_group = record {

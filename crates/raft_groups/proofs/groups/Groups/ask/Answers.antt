@@ -34,6 +34,6 @@ returns-in-Err-clause-err g c = λ s going built up lawful.
     let now : new c.args.group ≡ Some c.ask.new.self = search rules in
     of_group c.args.self.now.id c.args.group old new c.in-Some.member.now c.ask.new.self
     (λ m. IsUp (g.S.GroupStorage.is_well c.args.self.now.storage) (g.S.GroupStorage.shows c.args.self.now.storage c.args.group) m s)
-    (λ n m. HasBrokenOff (g.S.GroupStorage.is_well c.ask.new.storage) (g.S.GroupStorage.shows c.ask.new.storage c.args.group) n s (Call c.args.call.now c.args.now) m c.in-Err.met)
+    (λ n m. HasBrokenOff (g.S.GroupStorage.is_well c.ask.new.storage) (g.S.GroupStorage.shows c.ask.new.storage c.args.group) (g.S.GroupStorage.fails c.ask.new.storage) n s (Call c.args.call.now c.args.now) m c.in-Err.met)
     up was now c.ask.ensures.id
     (λ own here. c.in-Err.ensures.err s built here (subst (λ n. IsLawful n s) (sym own) lawful))

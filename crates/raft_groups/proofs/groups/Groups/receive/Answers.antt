@@ -34,6 +34,6 @@ returns-in-Err-clause-err g c = λ said s going says up lawful.
     let now : new c.args.group ≡ Some c.receive.new.self = search rules in
     of_group c.args.self.now.id c.args.group old new c.in-Some.member.now c.receive.new.self
     (λ m. IsUp (g.S.GroupStorage.is_well c.args.self.now.storage) (g.S.GroupStorage.shows c.args.self.now.storage c.args.group) m s)
-    (λ n m. HasStopped (g.S.GroupStorage.shows c.receive.new.storage c.args.group) n s (Receive c.args.message.now.sender said c.args.now) m)
+    (λ n m. HasStopped (g.S.GroupStorage.shows c.receive.new.storage c.args.group) (g.S.GroupStorage.fails c.receive.new.storage) n s (Receive c.args.message.now.sender said c.args.now) m)
     up was now c.receive.ensures.id
     (λ own here. c.in-Err.ensures.err said s says here (subst (λ n. IsLawful n s) (sym own) lawful))

@@ -2,7 +2,8 @@
 use Rattle.std.proofs.lemmas.Bool.{both_ways}
 use Rattle.raft_group_step.specs.GroupEvent.{Call}
 use Rattle.raft_group_step.specs.GroupStep.{group_step}
-use Rattle.raft_member.proofs.EventLemmas.{run_of_call}
+use Rattle.raft_log_ids.proofs.GrowthLemmas.{on_err}
+use Rattle.raft_member.proofs.EventLemmas.{halted_at_once, run_of_call}
 use Rattle.raft_member.proofs.member.Member.accepted_call.Goals as goal
 use Rattle.raft_member.proofs.member.Member.accepted_call.Goals.{in-TriggerSnapshot, in_default}
 
@@ -27,3 +28,10 @@ returns-clause-err g c = λ at s built down idle moment may.
       | in_default w ↦ w.in_default.not-TriggerSnapshot
     ])
     may))
+
+pub returns-in_err-take_call-clause-err : goal.returns-in_err-take_call-clause-err
+returns-in_err-take_call-clause-err g c = λ at s built down idle moment may.
+    let here = c.args.storage.now in
+    on_err _
+    (halted_at_once (g.S.GroupStorage.is_well here) (g.S.GroupStorage.shows here c.args.group) (g.S.GroupStorage.fails here) s.stored (group_step c.args.self.now.id s (Call c.args.call.now at))
+    (g.met.S.GroupStorage.shows_more here c.args.group) (g.met.S.GroupStorage.well_fails here down.well) c.args.self.now down.no_engine down.stored)

@@ -58,17 +58,19 @@ pub returns-in_err-take_snapshot-clause-err : goal.returns-in_err-take_snapshot-
 returns-in_err-take_snapshot-clause-err g c = λ y at s brings down moment may.
     let own = c.args.self.now.id in
     on_err _
-    (halted_at_once (g.S.GroupStorage.is_well c.args.storage.now) (g.S.GroupStorage.shows c.args.storage.now c.args.group) own s
-    (received own c.args.message.now.sender (body_as (λ x. y) c.args.message.now.body) at)
-    (g.met.S.GroupStorage.shows_more c.args.storage.now c.args.group) c.args.self.now down.no_engine down.stored)
+    (halted_at_once (g.S.GroupStorage.is_well c.args.storage.now) (g.S.GroupStorage.shows c.args.storage.now c.args.group) (g.S.GroupStorage.fails c.args.storage.now) s.stored
+    (group_step own s (received own c.args.message.now.sender (body_as (λ x. y) c.args.message.now.body) at))
+    (g.met.S.GroupStorage.shows_more c.args.storage.now c.args.group) (g.met.S.GroupStorage.well_fails c.args.storage.now down.well)
+    c.args.self.now down.no_engine down.stored)
 
 pub returns-in_err-take_message-clause-err : goal.returns-in_err-take_message-clause-err
 returns-in_err-take_message-clause-err g c = λ y at s brings down moment may.
     let own = c.args.self.now.id in
     on_err _
-    (halted_at_once (g.S.GroupStorage.is_well c.args.storage.now) (g.S.GroupStorage.shows c.args.storage.now c.args.group) own s
-    (received own c.args.message.now.sender (body_as (λ x. y) c.args.message.now.body) at)
-    (g.met.S.GroupStorage.shows_more c.args.storage.now c.args.group) c.args.self.now down.no_engine down.stored)
+    (halted_at_once (g.S.GroupStorage.is_well c.args.storage.now) (g.S.GroupStorage.shows c.args.storage.now c.args.group) (g.S.GroupStorage.fails c.args.storage.now) s.stored
+    (group_step own s (received own c.args.message.now.sender (body_as (λ x. y) c.args.message.now.body) at))
+    (g.met.S.GroupStorage.shows_more c.args.storage.now c.args.group) (g.met.S.GroupStorage.well_fails c.args.storage.now down.well)
+    c.args.self.now down.no_engine down.stored)
 
 pub returns-in-SnapshotRequest-clause-heard : goal.returns-in-SnapshotRequest-clause-heard
 returns-in-SnapshotRequest-clause-heard g c =

@@ -38,7 +38,8 @@ returns-clause-err g c = λ s built up lawful.
     let same : up.engine ≡ c.in-Some.engine = cc in
     let idle = subst (λ (e : Engine). IsIdle own e s) same up.idle in
     told_fault engine c.call-told.new.self c.join.new.self
-    (HasBrokenOff (g.S.GroupStorage.is_well c.call-told.new.storage) (g.S.GroupStorage.shows c.call-told.new.storage c.args.group) own s (Call c.args.call.now c.args.now))
+    (HasBrokenOff (g.S.GroupStorage.is_well c.call-told.new.storage) (g.S.GroupStorage.shows c.call-told.new.storage c.args.group)
+    (g.S.GroupStorage.fails c.call-told.new.storage) own s (Call c.args.call.now c.args.now))
     c.call-told.result (c.join.ensures engine refl c.call-told.ensures.id)
     (c.call-told.ensures.err s built
     (record {

@@ -35,7 +35,7 @@ returns-in-Err-accepted_call-clause-err g c = λ s built down moment idle lawful
     let facts = c.facts_of.ensures s idle.stands down.present (has_room_behind own s lawful) in
     let accepted : refusal_of own s event ≡ None = sym (c.in-Ok.ensures.refusal own s facts) ∙ ap (option_map reason_of) c.in_default.is in
     let at : c.max-moment.result ≡ max s.now c.args.now = c.max-moment.ensures ∙ ap (λ n. max n c.args.now) moment in
-    stopped_as_halted (g.S.GroupStorage.shows c.accepted_call.new.storage c.args.group) own s event c.accepted_call.new.self accepted
+    stopped_as_halted (g.S.GroupStorage.shows c.accepted_call.new.storage c.args.group) (g.S.GroupStorage.fails c.accepted_call.new.storage) own s event c.accepted_call.new.self accepted
     (c.in-Err-accepted_call.ensures.err c.args.now s built down idle at (may_take own c.args.engine.now s event idle lawful accepted))
 
 pub returns-in-Err-accepted_call-clause-taken : goal.returns-in-Err-accepted_call-clause-taken

@@ -15,7 +15,7 @@ returns-in_err-store_first-clause-err g c = λ old r down run.
     let fails = c.in_err-store_first.ensures.err run.taken.snapshot run.is_given down.well old down.stored in
     on_err _
     (halted_within (g.S.GroupStorage.is_well after) (g.S.GroupStorage.shows after c.args.group) g.S.GroupStorage.stands _ _ old r _ _ run down.present
-    (g.met.S.GroupStorage.shows_more after c.args.group) _ down.no_engine c.args.stop fails.0 fails.1)
+    (g.met.S.GroupStorage.shows_more after c.args.group) (g.S.GroupStorage.fails after) _ down.no_engine c.args.stop fails.0 fails.1 fails.2)
 
 pub returns-then-is_some-clause-ok : goal.returns-then-is_some-clause-ok
 returns-then-is_some-clause-ok g c = λ old r down run.
@@ -41,7 +41,8 @@ returns-in_err-sent-clause-err g c = λ old r down run.
     (c.in_ok-store_first.ensures.ok run.taken.snapshot run.is_given down.well old down.stored) in
     on_err _
     (halted_at_end (g.S.GroupStorage.is_well after) (g.S.GroupStorage.shows after c.args.group) g.S.GroupStorage.stands _ _ old r _ _ run down.present
-    (g.met.S.GroupStorage.shows_more after c.args.group) _ down.no_engine (c.messages.ensures.kept c.args.group _ stored))
+    (g.met.S.GroupStorage.shows_more after c.args.group) (g.S.GroupStorage.fails after)
+    (c.in_err-sent.ensures.err _ (c.in_ok-store_first.ensures.well down.well) stored) _ down.no_engine (c.messages.ensures.kept c.args.group _ stored))
 
 pub returns-in_err-note_sent-clause-err : goal.returns-in_err-note_sent-clause-err
 returns-in_err-note_sent-clause-err g c = λ old r down run.
@@ -54,7 +55,9 @@ returns-in_err-note_sent-clause-err g c = λ old r down run.
     (c.in_ok-store_first.ensures.ok run.taken.snapshot run.is_given down.well old down.stored) in
     on_err _
     (halted_at_end (g.S.GroupStorage.is_well after) (g.S.GroupStorage.shows after c.args.group) g.S.GroupStorage.stands _ _ old r _ _ run down.present
-    (g.met.S.GroupStorage.shows_more after c.args.group) _ down.no_engine (c.messages.ensures.kept c.args.group _ stored))
+    (g.met.S.GroupStorage.shows_more after c.args.group) (g.S.GroupStorage.fails after)
+    (g.met.S.GroupStorage.well_fails after (c.in_ok-sent.ensures.well (c.in_ok-store_first.ensures.well down.well)))
+    _ down.no_engine (c.messages.ensures.kept c.args.group _ stored))
 
 pub returns-clause-ok : goal.returns-clause-ok
 returns-clause-ok g c = λ old r down run.

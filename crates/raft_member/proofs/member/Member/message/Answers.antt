@@ -67,11 +67,12 @@ pub returns-in-None-clause-err : goal.returns-in-None-clause-err
 returns-in-None-clause-err g c = λ y s brings down moment idle lawful.
     let at : c.max-moment.result ≡ max s.now c.args.now = c.max-moment.ensures ∙ ap (λ n. max n c.args.now) moment in
     let shown = g.S.GroupStorage.shows c.accepted_message.new.storage c.args.group in
+    let fails = g.S.GroupStorage.fails c.accepted_message.new.storage in
     let m = c.accepted_message.new.self in
     let result = c.accepted_message.result in
-    subst (λ (e : GroupEvent). OnErr result (HasStopped shown c.args.self.now.id s e m)) (sym (same g c y s brings down.present idle lawful))
+    subst (λ (e : GroupEvent). OnErr result (HasStopped shown fails c.args.self.now.id s e m)) (sym (same g c y s brings down.present idle lawful))
     (on_err_weaker result
-    (stopped_as_halted shown c.args.self.now.id s (event g c y s brings down.present idle lawful) m (accepted g c y s brings down.present idle lawful))
+    (stopped_as_halted shown fails c.args.self.now.id s (event g c y s brings down.present idle lawful) m (accepted g c y s brings down.present idle lawful))
     (c.accepted_message.ensures.err y c.args.now s brings down at (may g c y s brings down.present idle lawful)))
 
 pub returns-in-None-clause-heard : goal.returns-in-None-clause-heard

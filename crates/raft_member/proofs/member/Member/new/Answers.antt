@@ -1,5 +1,6 @@
 -- A new member has the engine of a new group.
-use Rattle.std.proofs.Common.{true, refl}
+use Rattle.std.proofs.Common.{[], ◌∷◌, true, refl}
+use Rattle.raft_group_step.specs.StoredGroup.{MakeGroup, after_storing}
 use Rattle.raft_group_step.specs.GroupState.{no_group, state_of}
 use Rattle.raft_group_step.specs.GroupEvent.{Open}
 use Rattle.raft_log_ids.proofs.GrowthLemmas.{on_err}
@@ -8,9 +9,10 @@ use Rattle.raft_member.proofs.member.Member.new.Goals as goal
 
 pub returns-in_err-engine-clause-err : goal.returns-in_err-engine-clause-err
 returns-in_err-engine-clause-err g c = λ kept well shown.
-    on_err _
-    (shown_first (g.S.GroupStorage.is_well c.args.storage.now) (g.S.GroupStorage.shows c.args.storage.now c.args.group)
-    (g.met.S.GroupStorage.shows_more c.args.storage.now c.args.group) kept kept _ refl shown)
+    let here = c.args.storage.now in
+    let both : g.S.GroupStorage.shows here c.args.group (kept ∷ after_storing MakeGroup kept ∷ []) × g.S.GroupStorage.fails here MakeGroup kept =
+    (shown_first (g.S.GroupStorage.is_well here) (g.S.GroupStorage.shows here c.args.group) (g.met.S.GroupStorage.shows_more here c.args.group) kept kept _ refl shown, g.met.S.GroupStorage.well_fails here well _ kept) in
+    on_err _ both
 
 pub returns-in-Ok-clause-ok : goal.returns-in-Ok-clause-ok
 returns-in-Ok-clause-ok g c = λ well shown. (

@@ -33,7 +33,8 @@ returns-in_err-loaded-clause-err g c = λ st down openable.
     let after = c.load.new.self in
     on_err _
     (stopped_at_first st c.args.self.now.id (g.S.GroupStorage.is_well after) (g.S.GroupStorage.shows after c.args.group)
-    (g.met.S.GroupStorage.shows_more after c.args.group) c.args.self.now down.no_engine
+    (g.met.S.GroupStorage.shows_more after c.args.group) (g.S.GroupStorage.fails after)
+    (c.in_err-loaded.ensures.err st down.well down.stored) c.args.self.now down.no_engine
     (c.load.ensures.kept c.args.group _ down.stored))
 
 pub returns-in_default-clause-ok : goal.returns-in_default-clause-ok
@@ -67,17 +68,18 @@ returns-in_default-clause-err g c = λ st down openable.
     let stored = shown_with shown st None none (c.load.ensures.kept c.args.group _ down.stored) in
     let begun = opened_down st (g.S.GroupStorage.is_well before) shown c.args.self.now down.no_engine (c.in_ok-loaded.ensures.well down.well) down.present stored in
     let start = c.start.ensures.err st (loaded_with c.in_ok-loaded.loaded st None none loaded) begun openable in
-    on_err_weaker c.start.result (stopped_of_halted st own (g.S.GroupStorage.is_well after) (g.S.GroupStorage.shows after c.args.group) m) start
+    on_err_weaker c.start.result (stopped_of_halted st own (g.S.GroupStorage.is_well after) (g.S.GroupStorage.shows after c.args.group) (g.S.GroupStorage.fails after) m) start
 
 pub returns-in_err-start_after-clause-err : goal.returns-in_err-start_after-clause-err
 returns-in_err-start_after-clause-err g c = λ st down openable.
     let after = c.start_after.new.self in
     let loaded = c.in_ok-loaded.ensures.ok st down.well down.stored in
     let some : stale_end st ≡ Some c.in-Some.last = sym (c.stale_end.ensures st loaded) ∙ c.in-Some.is in
+    let failed = c.in_err-start_after.ensures.err (c.in_ok-loaded.ensures.well down.well) st (c.load.ensures.kept c.args.group _ down.stored) in
     on_err _
     (stopped_in_first st c.args.self.now.id (g.S.GroupStorage.is_well after) (g.S.GroupStorage.shows after c.args.group)
-    (g.met.S.GroupStorage.shows_more after c.args.group) c.args.self.now down.no_engine
-    c.in-Some.last some (c.in_err-start_after.ensures.err (c.in_ok-loaded.ensures.well down.well) st (c.load.ensures.kept c.args.group _ down.stored)))
+    (g.met.S.GroupStorage.shows_more after c.args.group) (g.S.GroupStorage.fails after) c.args.self.now down.no_engine
+    c.in-Some.last some failed.0 failed.1)
 
 pub returns-clause-ok : goal.returns-clause-ok
 returns-clause-ok g c = λ st down openable.
@@ -121,4 +123,4 @@ returns-clause-err g c = λ st down openable.
     let stored = shown_with shown st (Some c.in-Some.last) some (c.in_ok-start_after.ensures.ok well st (c.load.ensures.kept c.args.group _ down.stored)) in
     let begun = opened_down st (g.S.GroupStorage.is_well between) shown c.args.self.now down.no_engine (c.in_ok-start_after.ensures.well well) down.present stored in
     let start = c.start-2.ensures.err st (loaded_with c.starting_after-loaded.result st (Some c.in-Some.last) some (c.starting_after-loaded.ensures st loaded)) begun openable in
-    on_err_weaker c.start-2.result (stopped_of_halted st own (g.S.GroupStorage.is_well after) (g.S.GroupStorage.shows after c.args.group) m) start
+    on_err_weaker c.start-2.result (stopped_of_halted st own (g.S.GroupStorage.is_well after) (g.S.GroupStorage.shows after c.args.group) (g.S.GroupStorage.fails after) m) start

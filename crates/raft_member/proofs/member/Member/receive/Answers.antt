@@ -19,13 +19,14 @@ returns-clause-err g c = λ m s says up lawful.
     let peer = c.args.message.now.sender in
     let engine = c.message-told.new.engine in
     let shown = g.S.GroupStorage.shows c.message-told.new.storage c.args.group in
+    let fails = g.S.GroupStorage.fails c.message-told.new.storage in
     let said = said_as g.S.GroupStorage.stands c.args.message.now m says in
     let both : Some up.engine ≡ Some c.in-Some.engine = sym up.has_engine ∙ c.in-Some.is in
     let same : up.engine ≡ c.in-Some.engine = cc in
     let idle = subst (λ (e : Engine). IsIdle own e s) same up.idle in
     let event = Receive peer (message_as (λ x. said.0) c.args.message.now) c.args.now in
-    subst (λ (x : Said). OnErr c.message-told.result (HasStopped shown own s (Receive peer x c.args.now) c.join.new.self)) said.2
-    (told_fault engine c.message-told.new.self c.join.new.self (λ left met. HasStopped shown own s event left) c.message-told.result
+    subst (λ (x : Said). OnErr c.message-told.result (HasStopped shown fails own s (Receive peer x c.args.now) c.join.new.self)) said.2
+    (told_fault engine c.message-told.new.self c.join.new.self (λ left met. HasStopped shown fails own s event left) c.message-told.result
     (c.join.ensures engine refl c.message-told.ensures.id)
     (c.message-told.ensures.err said.0 s said.1
     (record {

@@ -13,7 +13,8 @@ use Rattle.raft_engine.proofs.BuildingLemmas.{stands_asking}
 use Rattle.raft_progress.proofs.OrderLemmas.{bool_cases}
 use Rattle.raft_member.specs.Member.{Engine, IsBuilt}
 use Rattle.raft_member.proofs.AppliedLemmas.{has_one}
-use Rattle.raft_member.proofs.EventLemmas.{run_of_call, run_of_call_with}
+use Rattle.raft_log_ids.proofs.GrowthLemmas.{on_err}
+use Rattle.raft_member.proofs.EventLemmas.{halted_at_once, run_of_call, run_of_call_with}
 use Rattle.raft_member.proofs.RunLemmas.{one_snapshot}
 use Rattle.raft_member.proofs.member.Member.snapshot_call.Goals as goal
 
@@ -76,3 +77,24 @@ returns-clause-err g c = λ at s built down idle moment may.
     may.ready may.accepted (c.in_ok-meta_of.ensures one.0 (c.head.ensures one.0 said)) one.1 in
     c.end_taken.ensures.err s.stored (group_step c.args.self.now.id s (Call TriggerSnapshot at)) down
     (run_of_call_with stands c.args.engine.now c.args.self.now.id at c.args.moment c.finish_building_snapshot.new.self s TriggerSnapshot c.in-Some.snapshot.now one.0 said moment may.accepted taken)
+
+pub returns-in_err-trigger_snapshot-clause-err : goal.returns-in_err-trigger_snapshot-clause-err
+returns-in_err-trigger_snapshot-clause-err g c = λ at s built down idle moment may.
+    let here = c.args.storage.now in
+    on_err _
+    (halted_at_once (g.S.GroupStorage.is_well here) (g.S.GroupStorage.shows here c.args.group) (g.S.GroupStorage.fails here) s.stored (group_step c.args.self.now.id s (Call TriggerSnapshot at))
+    (g.met.S.GroupStorage.shows_more here c.args.group) (g.met.S.GroupStorage.well_fails here down.well) c.args.self.now down.no_engine down.stored)
+
+pub returns-in_err-meta_of-clause-err : goal.returns-in_err-meta_of-clause-err
+returns-in_err-meta_of-clause-err g c = λ at s built down idle moment may.
+    let here = c.args.storage.now in
+    on_err _
+    (halted_at_once (g.S.GroupStorage.is_well here) (g.S.GroupStorage.shows here c.args.group) (g.S.GroupStorage.fails here) s.stored (group_step c.args.self.now.id s (Call TriggerSnapshot at))
+    (g.met.S.GroupStorage.shows_more here c.args.group) (g.met.S.GroupStorage.well_fails here down.well) c.args.self.now down.no_engine down.stored)
+
+pub returns-in_err-_answer-clause-err : goal.returns-in_err-_answer-clause-err
+returns-in_err-_answer-clause-err g c = λ at s built down idle moment may.
+    let here = c.args.storage.now in
+    on_err _
+    (halted_at_once (g.S.GroupStorage.is_well here) (g.S.GroupStorage.shows here c.args.group) (g.S.GroupStorage.fails here) s.stored (group_step c.args.self.now.id s (Call TriggerSnapshot at))
+    (g.met.S.GroupStorage.shows_more here c.args.group) (g.met.S.GroupStorage.well_fails here down.well) c.args.self.now down.no_engine down.stored)

@@ -16,15 +16,15 @@ use Rattle.raft_node.proofs.node.Node.ask_snapshot.Goals as goal
 pub returns-clause-event : goal.returns-clause-event
 returns-clause-event g c =
     let lent : option_copied c.as_ref.result ≡ c.in-Ok.built = search rules in
-    let old : NodeValue = (value_of g.M.StateMachine.state g.S.GroupStorage.is_well g.S.GroupStorage.shows c.args.self.now) in
-    let mid : NodeValue = (value_of g.M.StateMachine.state g.S.GroupStorage.is_well g.S.GroupStorage.shows (record c.args.self.now { groups = c.ask_group-answered.new.groups })) in
-    let new : NodeValue = (value_of g.M.StateMachine.state g.S.GroupStorage.is_well g.S.GroupStorage.shows c.settle.new.self) in
+    let old : NodeValue = (value_of g.M.StateMachine.state g.S.GroupStorage.is_well g.S.GroupStorage.shows g.S.GroupStorage.fails c.args.self.now) in
+    let mid : NodeValue = (value_of g.M.StateMachine.state g.S.GroupStorage.is_well g.S.GroupStorage.shows g.S.GroupStorage.fails (record c.args.self.now { groups = c.ask_group-answered.new.groups })) in
+    let new : NodeValue = (value_of g.M.StateMachine.state g.S.GroupStorage.is_well g.S.GroupStorage.shows g.S.GroupStorage.fails c.settle.new.self) in
     let id : c.ask_group-answered.new.groups.id ≡ c.args.self.now.groups.id = c.ask_group-answered.ensures.id in
     let n : Node = with_own mid.groups c.args.self.now.groups.id in
     let of_group = of_group_now old.groups n c.ask_group-answered.new.groups.id id c.args.group c.ask_group-answered.result c.ask_group-answered.ensures.asked.of_group in
     let passes : Passes (c.settle.new.self ≡ c.args.self.now) (c.settle.new.self ≡ record c.args.self.now { groups = c.ask_group-answered.new.groups }) old mid c.args.group c.ask_group-answered.result c.settle.result = record {
       away = λ turned other x stands.
-          subst (λ gr. Stands (record { own = gr.id; has_failed = gr.has_failed; members = get nat_cmp gr.members; is_well = g.S.GroupStorage.is_well gr.storage; shows = g.S.GroupStorage.shows gr.storage }) other x)
+          subst (λ gr. Stands (record { own = gr.id; has_failed = gr.has_failed; members = get nat_cmp gr.members; is_well = g.S.GroupStorage.is_well gr.storage; shows = g.S.GroupStorage.shows gr.storage; fails = g.S.GroupStorage.fails gr.storage }) other x)
           (sym (c.ask_group-answered.ensures.same turned)) stands;
       back = λ turned is. is ∙ ap (λ gr. record c.args.self.now { groups = gr }) (c.ask_group-answered.ensures.same turned);
       passed = c.settle.ensures.passed;

@@ -22,10 +22,10 @@ use Rattle.raft_node.proofs.node.Node.ask_with_token.Goals as goal
 
 pub returns-clause-event : goal.returns-clause-event
 returns-clause-event g c = λ one.
-    let old : NodeValue = (value_of g.M.StateMachine.state g.S.GroupStorage.is_well g.S.GroupStorage.shows c.args.self.now) in
-    let waiting : NodeValue = (value_of g.M.StateMachine.state g.S.GroupStorage.is_well g.S.GroupStorage.shows c.take_token.new.self) in
-    let mid : NodeValue = (value_of g.M.StateMachine.state g.S.GroupStorage.is_well g.S.GroupStorage.shows (record c.take_token.new.self { groups = c.ask_group-answered.new.groups })) in
-    let new : NodeValue = (value_of g.M.StateMachine.state g.S.GroupStorage.is_well g.S.GroupStorage.shows c.settle_with_token.new.self) in
+    let old : NodeValue = (value_of g.M.StateMachine.state g.S.GroupStorage.is_well g.S.GroupStorage.shows g.S.GroupStorage.fails c.args.self.now) in
+    let waiting : NodeValue = (value_of g.M.StateMachine.state g.S.GroupStorage.is_well g.S.GroupStorage.shows g.S.GroupStorage.fails c.take_token.new.self) in
+    let mid : NodeValue = (value_of g.M.StateMachine.state g.S.GroupStorage.is_well g.S.GroupStorage.shows g.S.GroupStorage.fails (record c.take_token.new.self { groups = c.ask_group-answered.new.groups })) in
+    let new : NodeValue = (value_of g.M.StateMachine.state g.S.GroupStorage.is_well g.S.GroupStorage.shows g.S.GroupStorage.fails c.settle_with_token.new.self) in
     let same = c.take_token.ensures.groups in
     let id : c.ask_group-answered.new.groups.id ≡ c.take_token.new.self.groups.id = c.ask_group-answered.ensures.id in
     let own : c.ask_group-answered.new.groups.id ≡ c.args.self.now.groups.id = id ∙ ap (λ gr. gr.id) same in
@@ -33,7 +33,7 @@ returns-clause-event g c = λ one.
     let of_group = of_group_now waiting.groups n c.ask_group-answered.new.groups.id id c.args.group c.ask_group-answered.result c.ask_group-answered.ensures.asked.of_group in
     let first : Reaches old waiting c.args.group (GoesOn c.settle_with_token.result) = record {
       own = ap (λ gr. gr.id) same;
-      members = λ other x apart goes stands. subst (λ gr. Stands (record { own = gr.id; has_failed = gr.has_failed; members = get nat_cmp gr.members; is_well = g.S.GroupStorage.is_well gr.storage; shows = g.S.GroupStorage.shows gr.storage }) other x) (sym same) stands;
+      members = λ other x apart goes stands. subst (λ gr. Stands (record { own = gr.id; has_failed = gr.has_failed; members = get nat_cmp gr.members; is_well = g.S.GroupStorage.is_well gr.storage; shows = g.S.GroupStorage.shows gr.storage; fails = g.S.GroupStorage.fails gr.storage }) other x) (sym same) stands;
       running = c.take_token.ensures.others;
       kept = λ other parts apart shown. subst (λ gr. g.S.GroupStorage.shows gr.storage other parts) (sym same) shown;
       streams = λ peer. ap (λ f. feeding_of (get nat_cmp f peer)) c.take_token.ensures.feeders;
@@ -47,13 +47,13 @@ returns-clause-event g c = λ one.
           (ap (λ ts. tokens_at (end_place s.stored) ts) one)
           (taken_now n c.ask_group-answered.new.groups.id id g.S.GroupStorage.stands c.args.group s (Call c.args.call.now c.args.now) c.ask_group-answered.result
           (c.ask_group-answered.ensures.asked.taken s (ap (λ gr. gr.has_failed) same ∙ going) (λ is. absurd (let no : [] ≡ c.args.token ∷ [] = sym (ap token_of_call is) ∙ one in cc))
-          (subst (λ gr. Stands (record { own = gr.id; has_failed = gr.has_failed; members = get nat_cmp gr.members; is_well = g.S.GroupStorage.is_well gr.storage; shows = g.S.GroupStorage.shows gr.storage }) c.args.group (Up s)) (sym same) at.up) (subst (λ gr. IsLawful gr.id s) (sym same) reached.lawful)))
+          (subst (λ gr. Stands (record { own = gr.id; has_failed = gr.has_failed; members = get nat_cmp gr.members; is_well = g.S.GroupStorage.is_well gr.storage; shows = g.S.GroupStorage.shows gr.storage; fails = g.S.GroupStorage.fails gr.storage }) c.args.group (Up s)) (sym same) at.up) (subst (λ gr. IsLawful gr.id s) (sym same) reached.lawful)))
           (ok_holds c.take_token.result room (c.take_token.ensures.ok s at reached.lawful));
       elsewhere =
           reach_elsewhere old waiting new c.args.group c.settle_with_token.result first
           (reach_elsewhere waiting mid new c.args.group c.settle_with_token.result
           (asked_reaches waiting.groups mid.groups c.args.group waiting.running waiting.running waiting.streams c.ask_group-answered.result c.settle_with_token.result _ id of_group
-          (λ other x turned stands. subst (λ gr. Stands (record { own = gr.id; has_failed = gr.has_failed; members = get nat_cmp gr.members; is_well = g.S.GroupStorage.is_well gr.storage; shows = g.S.GroupStorage.shows gr.storage }) other x) (sym (c.ask_group-answered.ensures.same turned)) stands) (λ other apart. refl) c.settle_with_token.ensures.passed)
+          (λ other x turned stands. subst (λ gr. Stands (record { own = gr.id; has_failed = gr.has_failed; members = get nat_cmp gr.members; is_well = g.S.GroupStorage.is_well gr.storage; shows = g.S.GroupStorage.shows gr.storage; fails = g.S.GroupStorage.fails gr.storage }) other x) (sym (c.ask_group-answered.ensures.same turned)) stands) (λ other apart. refl) c.settle_with_token.ensures.passed)
           c.settle_with_token.ensures.elsewhere);
       failed = λ has. absurd (let no : true ≡ false = sym has ∙ c.if-self.false in cc);
       unknown = λ going none.

@@ -33,13 +33,13 @@ no_why (TriggerPurge place) result n = refl
 
 pub returns-in-TriggerSnapshot-clause-event : goal.returns-in-TriggerSnapshot-clause-event
 returns-in-TriggerSnapshot-clause-event g c =
-    subst (λ call. IsEvent g.M.StateMachine.rules g.S.GroupStorage.stands (c.ask_snapshot.new.self ≡ c.args.self.now) (value_of g.M.StateMachine.state g.S.GroupStorage.is_well g.S.GroupStorage.shows c.args.self.now)
-    (value_of g.M.StateMachine.state g.S.GroupStorage.is_well g.S.GroupStorage.shows c.ask_snapshot.new.self) c.args.group (Call call c.args.now) (without_its_why call c.ask_snapshot.result))
+    subst (λ call. IsEvent g.M.StateMachine.rules g.S.GroupStorage.stands (c.ask_snapshot.new.self ≡ c.args.self.now) (value_of g.M.StateMachine.state g.S.GroupStorage.is_well g.S.GroupStorage.shows g.S.GroupStorage.fails c.args.self.now)
+    (value_of g.M.StateMachine.state g.S.GroupStorage.is_well g.S.GroupStorage.shows g.S.GroupStorage.fails c.ask_snapshot.new.self) c.args.group (Call call c.args.now) (without_its_why call c.ask_snapshot.result))
     (sym c.in-TriggerSnapshot.is) c.ask_snapshot.ensures.event
 
 pub returns-in_default-clause-event : goal.returns-in_default-clause-event
 returns-in_default-clause-event g c =
-    subst (λ r. IsEvent {F = g.row.S-Fault.Denot} g.M.StateMachine.rules g.S.GroupStorage.stands (c.ask-in_default.new.self ≡ c.args.self.now) (value_of g.M.StateMachine.state g.S.GroupStorage.is_well g.S.GroupStorage.shows c.args.self.now)
-    (value_of g.M.StateMachine.state g.S.GroupStorage.is_well g.S.GroupStorage.shows c.ask-in_default.new.self) c.args.group (Call c.args.call.now c.args.now) r)
+    subst (λ r. IsEvent {F = g.row.S-Fault.Denot} g.M.StateMachine.rules g.S.GroupStorage.stands (c.ask-in_default.new.self ≡ c.args.self.now) (value_of g.M.StateMachine.state g.S.GroupStorage.is_well g.S.GroupStorage.shows g.S.GroupStorage.fails c.args.self.now)
+    (value_of g.M.StateMachine.state g.S.GroupStorage.is_well g.S.GroupStorage.shows g.S.GroupStorage.fails c.ask-in_default.new.self) c.args.group (Call c.args.call.now c.args.now) r)
     (sym (no_why c.args.call.now c.ask-in_default.result c.in_default.not-Initialize))
     (c.ask-in_default.ensures.event (no_token c.args.call.now c.in_default.not-Propose c.in_default.not-ChangeMembership) c.in_default.not-TriggerSnapshot)

@@ -6,7 +6,7 @@ use Rattle.raft_node.proofs.node.Node.open.Goals as goal
 
 pub returns-in-Ok-clause-opened : goal.returns-in-Ok-clause-opened
 returns-in-Ok-clause-opened g c = λ kept of keeps.
-    let begun : IsBegun (value_of g.M.StateMachine.state g.S.GroupStorage.is_well g.S.GroupStorage.shows c.without_groups-node.result) kept = record {
+    let begun : IsBegun (value_of g.M.StateMachine.state g.S.GroupStorage.is_well g.S.GroupStorage.shows g.S.GroupStorage.fails c.without_groups-node.result) kept = record {
       going = c.without_groups-node.ensures.going;
       keeps = record {
         well = subst g.S.GroupStorage.is_well (sym c.without_groups-node.ensures.storage) keeps.well;
@@ -20,7 +20,7 @@ returns-in-Ok-clause-opened g c = λ kept of keeps.
 
 pub returns-in-Err-clause-stopped : goal.returns-in-Err-clause-stopped
 returns-in-Err-clause-stopped g c = λ kept of keeps.
-    let begun : IsBegun (value_of g.M.StateMachine.state g.S.GroupStorage.is_well g.S.GroupStorage.shows c.without_groups-node.result) kept = record {
+    let begun : IsBegun (value_of g.M.StateMachine.state g.S.GroupStorage.is_well g.S.GroupStorage.shows g.S.GroupStorage.fails c.without_groups-node.result) kept = record {
       going = c.without_groups-node.ensures.going;
       keeps = record {
         well = subst g.S.GroupStorage.is_well (sym c.without_groups-node.ensures.storage) keeps.well;
@@ -30,5 +30,5 @@ returns-in-Err-clause-stopped g c = λ kept of keeps.
       no_member = c.without_groups-node.ensures.none;
       idle = λ group. ap (λ m. running_in g.M.StateMachine.state m group) c.without_groups-node.ensures.no_machines;
     } in
-    subst (λ x. HasNotOpened {F = g.row.S-Fault.Denot} c.args.id kept (g.S.GroupStorage.shows x) c.in-Err.fault) (sym c.into_storage.ensures)
-    (subst (λ k. HasNotOpened {F = g.row.S-Fault.Denot} k kept (g.S.GroupStorage.shows c.open_groups.new.self.groups.storage) c.in-Err.fault) c.without_groups-node.ensures.id (c.in-Err.ensures.stopped kept of begun))
+    subst (λ x. HasNotOpened {F = g.row.S-Fault.Denot} c.args.id kept (g.S.GroupStorage.shows x) (g.S.GroupStorage.fails x) c.in-Err.fault) (sym c.into_storage.ensures)
+    (subst (λ k. HasNotOpened {F = g.row.S-Fault.Denot} k kept (g.S.GroupStorage.shows c.open_groups.new.self.groups.storage) (g.S.GroupStorage.fails c.open_groups.new.self.groups.storage) c.in-Err.fault) c.without_groups-node.ensures.id (c.in-Err.ensures.stopped kept of begun))

@@ -13,6 +13,6 @@ invariant-loop-group g l =
     × (l.self.groups.has_failed ≡ l.initial.self.groups.has_failed)
     × (l.self.feeders ≡ l.initial.self.feeders)
     × ((kept : ℕ → StoredGroup) → AreOfMachine g.M.StateMachine.rules g.S.GroupStorage.stands
-    → IsBegun (value_of g.M.StateMachine.state g.S.GroupStorage.is_well g.S.GroupStorage.shows l.initial.self) kept → AreThere kept l.groups
-    → IsOpening g.M.StateMachine.rules kept g.S.GroupStorage.stands (value_of g.M.StateMachine.state g.S.GroupStorage.is_well g.S.GroupStorage.shows l.self) l.groups (drop l.group-index l.groups) l.outcomes.items)
+    → IsBegun (value_of g.M.StateMachine.state g.S.GroupStorage.is_well g.S.GroupStorage.shows g.S.GroupStorage.fails l.initial.self) kept → AreThere kept l.groups
+    → IsOpening g.M.StateMachine.rules kept g.S.GroupStorage.stands (value_of g.M.StateMachine.state g.S.GroupStorage.is_well g.S.GroupStorage.shows g.S.GroupStorage.fails l.self) l.groups (drop l.group-index l.groups) l.outcomes.items)
     × g.S.GroupStorage.meets l.initial.self.groups.storage l.self.groups.storage None

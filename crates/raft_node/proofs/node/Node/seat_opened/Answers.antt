@@ -31,7 +31,7 @@ returns-clause-ok g c = λ st of up whole.
     let members : ℕ → Option _ = get nat_cmp c.args.self.now.groups.members in
     let has : members c.args.group ≡ Some c.in-Some.member.now = search rules in
     let same = c.seat.ensures.groups in
-    seats g.M.StateMachine.rules (value_of g.M.StateMachine.state g.S.GroupStorage.is_well g.S.GroupStorage.shows c.args.self.now) (value_of g.M.StateMachine.state g.S.GroupStorage.is_well g.S.GroupStorage.shows c.seat.new.self) c.args.group st c.in-Some.member.now
+    seats g.M.StateMachine.rules (value_of g.M.StateMachine.state g.S.GroupStorage.is_well g.S.GroupStorage.shows g.S.GroupStorage.fails c.args.self.now) (value_of g.M.StateMachine.state g.S.GroupStorage.is_well g.S.GroupStorage.shows g.S.GroupStorage.fails c.seat.new.self) c.args.group st c.in-Some.member.now
     (ap (λ x. x.id) same) (ap (λ x. get nat_cmp x.members c.args.group) same) (subst (λ x. g.S.GroupStorage.is_well x.storage) (sym same) (c.in_ok-applier.ensures.well up.holds.well))
     (λ parts shown. subst (λ x. g.S.GroupStorage.shows x.storage c.args.group parts) (sym same) (c.in_ok-applier.ensures.kept c.args.group parts shown)) has up
     (λ here all. subst (λ o. RunsAt g.M.StateMachine.rules o (group_step c.in-Some.member.now.id (state_of st) Open).state)

@@ -26,7 +26,7 @@ returns-clause-ended g c = λ s e x of step is taken runs.
     (subst (λ gr. refusal_of gr.id s e ≡ None → IsStep gr.id s e) (sym c.give_back_token.ensures.groups) step)
     (record {
       taken =
-          subst (λ gr. IsTakenOr (λ met member. HasBrokenOff (g.S.GroupStorage.is_well gr.storage) (g.S.GroupStorage.shows gr.storage c.args.group) gr.id s e member met) g.S.GroupStorage.stands (record { own = gr.id; has_failed = gr.has_failed; members = get nat_cmp gr.members; is_well = g.S.GroupStorage.is_well gr.storage; shows = g.S.GroupStorage.shows gr.storage }) c.args.group s e c.args.answered)
+          subst (λ gr. IsTakenOr (λ met member. HasBrokenOff (g.S.GroupStorage.is_well gr.storage) (g.S.GroupStorage.shows gr.storage c.args.group) (g.S.GroupStorage.fails gr.storage) gr.id s e member met) g.S.GroupStorage.stands (record { own = gr.id; has_failed = gr.has_failed; members = get nat_cmp gr.members; is_well = g.S.GroupStorage.is_well gr.storage; shows = g.S.GroupStorage.shows gr.storage; fails = g.S.GroupStorage.fails gr.storage }) c.args.group s e c.args.answered)
           (sym c.give_back_token.ensures.groups) taken;
       runs = subst (RunsAt g.M.StateMachine.rules (running_in g.M.StateMachine.state c.give_back_token.new.self.machines c.args.group)) (sym (waits_before s e c.args.answered before)) (c.give_back_token.ensures.back s x runs);
     })

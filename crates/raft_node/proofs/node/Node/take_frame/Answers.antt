@@ -15,14 +15,14 @@ use Rattle.raft_node.proofs.node.Node.take_frame.Goals as goal
 
 pub returns-clause-frame : goal.returns-clause-frame
 returns-clause-frame g c =
-    let old : NodeValue = (value_of g.M.StateMachine.state g.S.GroupStorage.is_well g.S.GroupStorage.shows c.args.self.now) in
-    let mid : NodeValue = (value_of g.M.StateMachine.state g.S.GroupStorage.is_well g.S.GroupStorage.shows (record c.args.self.now { groups = c.receive_frame-answered.new.groups })) in
-    let new : NodeValue = (value_of g.M.StateMachine.state g.S.GroupStorage.is_well g.S.GroupStorage.shows c.settle.new.self) in
+    let old : NodeValue = (value_of g.M.StateMachine.state g.S.GroupStorage.is_well g.S.GroupStorage.shows g.S.GroupStorage.fails c.args.self.now) in
+    let mid : NodeValue = (value_of g.M.StateMachine.state g.S.GroupStorage.is_well g.S.GroupStorage.shows g.S.GroupStorage.fails (record c.args.self.now { groups = c.receive_frame-answered.new.groups })) in
+    let new : NodeValue = (value_of g.M.StateMachine.state g.S.GroupStorage.is_well g.S.GroupStorage.shows g.S.GroupStorage.fails c.settle.new.self) in
     let id : c.receive_frame-answered.new.groups.id ≡ c.args.self.now.groups.id = c.receive_frame-answered.ensures.id in
     let n : Node = with_own mid.groups c.args.self.now.groups.id in
     let passes : Passes (c.settle.new.self ≡ c.args.self.now) (c.settle.new.self ≡ record c.args.self.now { groups = c.receive_frame-answered.new.groups }) old mid c.args.frame.now.group c.receive_frame-answered.result c.settle.result = record {
       away = λ turned other x stands.
-          subst (λ gr. Stands (record { own = gr.id; has_failed = gr.has_failed; members = get nat_cmp gr.members; is_well = g.S.GroupStorage.is_well gr.storage; shows = g.S.GroupStorage.shows gr.storage }) other x)
+          subst (λ gr. Stands (record { own = gr.id; has_failed = gr.has_failed; members = get nat_cmp gr.members; is_well = g.S.GroupStorage.is_well gr.storage; shows = g.S.GroupStorage.shows gr.storage; fails = g.S.GroupStorage.fails gr.storage }) other x)
           (sym (c.receive_frame-answered.ensures.same turned)) stands;
       back = λ turned is. is ∙ ap (λ gr. record c.args.self.now { groups = gr }) (c.receive_frame-answered.ensures.same turned);
       passed = c.settle.ensures.passed;

@@ -20,13 +20,14 @@ pub returns-in-Some-clause-ended : goal.returns-in-Some-clause-ended
 returns-in-Some-clause-ended g c = λ s token at lawful.
     let judged = c.in-Taken.ensures s at.up lawful in
     let own : c.stop_with.new.self.groups.id ≡ c.args.self.now.groups.id = ap (λ x. x.id) c.stop_with.ensures.groups in
-    stop_for_ends g.M.StateMachine.rules g.S.GroupStorage.stands (value_of g.M.StateMachine.state g.S.GroupStorage.is_well g.S.GroupStorage.shows c.stop_with.new.self) c.args.group s (Call c.args.call.now c.args.now) Memory
+    stop_for_ends g.M.StateMachine.rules g.S.GroupStorage.stands (value_of g.M.StateMachine.state g.S.GroupStorage.is_well g.S.GroupStorage.shows g.S.GroupStorage.fails c.stop_with.new.self) c.args.group s (Call c.args.call.now c.args.now) Memory
     (λ other. waiting_of (running_in g.M.StateMachine.state c.args.self.now.machines other) ++ one_more_in c.args.self.now.machines other c.args.group (record { token = c.in-Some.token; place = c.in-Taken.place }))
     c.stop_with.result c.stop_with.ensures.stops (ap (λ x. x.has_failed) c.stop_with.ensures.groups)
     (λ unknown named. record {
       taken = ap (λ n. refusal_of n s (Call c.args.call.now c.args.now)) own ∙ judged.0;
       left =
-          left_before (value_of g.M.StateMachine.state g.S.GroupStorage.is_well g.S.GroupStorage.shows c.stop_with.new.self) c.args.group s (Call c.args.call.now c.args.now) (g.met.S.GroupStorage.shows_more c.stop_with.new.self.groups.storage)
+          left_before (value_of g.M.StateMachine.state g.S.GroupStorage.is_well g.S.GroupStorage.shows g.S.GroupStorage.fails c.stop_with.new.self) c.args.group s (Call c.args.call.now c.args.now) (g.met.S.GroupStorage.shows_more c.stop_with.new.self.groups.storage)
+          (g.met.S.GroupStorage.well_fails c.stop_with.new.self.groups.storage (subst (λ x. g.S.GroupStorage.is_well x.storage) (sym c.stop_with.ensures.groups) at.up.holds.well))
           (subst (λ x. g.S.GroupStorage.shows x.storage c.args.group (s.stored ∷ [])) (sym c.stop_with.ensures.groups) at.up.holds.stored);
       named =
           named
@@ -40,7 +41,7 @@ returns-in-Some-clause-ended g c = λ s token at lawful.
 
 pub returns-in-Some-clause-elsewhere : goal.returns-in-Some-clause-elsewhere
 returns-in-Some-clause-elsewhere g c =
-    stop_for_elsewhere (value_of g.M.StateMachine.state g.S.GroupStorage.is_well g.S.GroupStorage.shows c.args.self.now) (value_of g.M.StateMachine.state g.S.GroupStorage.is_well g.S.GroupStorage.shows c.stop_with.new.self) c.args.group Memory
+    stop_for_elsewhere (value_of g.M.StateMachine.state g.S.GroupStorage.is_well g.S.GroupStorage.shows g.S.GroupStorage.fails c.args.self.now) (value_of g.M.StateMachine.state g.S.GroupStorage.is_well g.S.GroupStorage.shows g.S.GroupStorage.fails c.stop_with.new.self) c.args.group Memory
     (λ other. waiting_of (running_in g.M.StateMachine.state c.args.self.now.machines other) ++ one_more_in c.args.self.now.machines other c.args.group (record { token = c.in-Some.token; place = c.in-Taken.place }))
     c.stop_with.result c.stop_with.ensures.stops
     (λ other apart.
@@ -54,13 +55,14 @@ pub returns-in-None-clause-ended : goal.returns-in-None-clause-ended
 returns-in-None-clause-ended g c = λ s token at lawful.
     let judged = c.in-Taken.ensures s at.up lawful in
     let own : c.stop.new.self.groups.id ≡ c.args.self.now.groups.id = ap (λ x. x.id) c.stop.ensures.groups in
-    stop_for_ends g.M.StateMachine.rules g.S.GroupStorage.stands (value_of g.M.StateMachine.state g.S.GroupStorage.is_well g.S.GroupStorage.shows c.stop.new.self) c.args.group s (Call c.args.call.now c.args.now) Memory
+    stop_for_ends g.M.StateMachine.rules g.S.GroupStorage.stands (value_of g.M.StateMachine.state g.S.GroupStorage.is_well g.S.GroupStorage.shows g.S.GroupStorage.fails c.stop.new.self) c.args.group s (Call c.args.call.now c.args.now) Memory
     (λ other. waiting_of (running_in g.M.StateMachine.state c.args.self.now.machines other))
     c.stop.result c.stop.ensures.stops (ap (λ x. x.has_failed) c.stop.ensures.groups)
     (λ unknown named. record {
       taken = ap (λ n. refusal_of n s (Call c.args.call.now c.args.now)) own ∙ judged.0;
       left =
-          left_before (value_of g.M.StateMachine.state g.S.GroupStorage.is_well g.S.GroupStorage.shows c.stop.new.self) c.args.group s (Call c.args.call.now c.args.now) (g.met.S.GroupStorage.shows_more c.stop.new.self.groups.storage)
+          left_before (value_of g.M.StateMachine.state g.S.GroupStorage.is_well g.S.GroupStorage.shows g.S.GroupStorage.fails c.stop.new.self) c.args.group s (Call c.args.call.now c.args.now) (g.met.S.GroupStorage.shows_more c.stop.new.self.groups.storage)
+          (g.met.S.GroupStorage.well_fails c.stop.new.self.groups.storage (subst (λ x. g.S.GroupStorage.is_well x.storage) (sym c.stop.ensures.groups) at.up.holds.well))
           (subst (λ x. g.S.GroupStorage.shows x.storage c.args.group (s.stored ∷ [])) (sym c.stop.ensures.groups) at.up.holds.stored);
       named = named ∙ waits g.M.StateMachine.rules _ s at.runs ∙ sym (append-nil s.untold) ∙ ap (λ xs. s.untold ++ xs) (sym (ap (λ ts. tokens_at (end_place s.stored) ts) (token ∙ ap option_to_list c.in-None.is)));
       caused = tt;

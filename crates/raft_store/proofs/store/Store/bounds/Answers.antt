@@ -10,18 +10,18 @@ use Rattle.raft_store.proofs.Storing.{only_one}
 use Rattle.raft_store.proofs.store.Store.bounds.Goals as goal
 
 pub returns-clause-purged : goal.returns-clause-purged
-returns-clause-purged g c = λ s sound shown.
-    let held = only_one g.M.StateMachine.rules (g.L.ContentLog.answers c.args.self.now.log c.args.group) s (shown.answered sound) in
+returns-clause-purged g c = λ rules s sound shown.
+    let held = only_one rules (g.L.ContentLog.answers c.args.self.now.log c.args.group) s (shown.answered sound) in
     c.in_ok-new.ensures.purged ∙ c.in_ok-purged.ensures.read s.purged held.purged_fits (c.in_ok-purged_value.ensures.value sound ∙ held.purged)
 
 pub returns-clause-first : goal.returns-clause-first
-returns-clause-first g c = λ s sound shown.
-    let held = only_one g.M.StateMachine.rules (g.L.ContentLog.answers c.args.self.now.log c.args.group) s (shown.answered sound) in
+returns-clause-first g c = λ rules s sound shown.
+    let held = only_one rules (g.L.ContentLog.answers c.args.self.now.log c.args.group) s (shown.answered sound) in
     c.in_ok-new.ensures.first ∙ ap (λ (id : Option (LogId ℕ)). next_place id) (c.in_ok-purged.ensures.read s.purged held.purged_fits (c.in_ok-purged_value.ensures.value sound ∙ held.purged))
 
 pub returns-clause-end : goal.returns-clause-end
-returns-clause-end g c = λ s sound shown.
-    let held = only_one g.M.StateMachine.rules (g.L.ContentLog.answers c.args.self.now.log c.args.group) s (shown.answered sound) in
+returns-clause-end g c = λ rules s sound shown.
+    let held = only_one rules (g.L.ContentLog.answers c.args.self.now.log c.args.group) s (shown.answered sound) in
     let sound_then = c.in_ok-purged_value.ensures.well sound in
     let same = (c.in_ok-purged_value.ensures.steady sound_then).1 in
     c.in_ok-new.ensures.end ∙ c.in_ok-end.ensures.read (end_place s) (subst (λ (value : Option (List ℕ)). HoldsEnd value (end_place s))

@@ -7,8 +7,7 @@ use Rattle.raft_store.proofs.Storing.{only_one}
 use Rattle.raft_store.proofs.store.Store.entries.Goals as goal
 
 pub returns-clause-read : goal.returns-clause-read
-returns-clause-read g c = λ s sound shown low high.
-    let rules = g.M.StateMachine.rules in
+returns-clause-read g c = λ rules s sound shown low high.
     let content = g.L.ContentLog.answers c.args.self.now.log c.args.group in
     let held = only_one rules content s (shown.answered sound) in
     let count = c.args.places.end - c.args.places.start in
@@ -18,8 +17,7 @@ returns-clause-read g c = λ s sound shown low high.
     ∙ found_at rules content s held c.args.places.start c.args.places.end low high (payloads c.in_ok-bytes.bytes.items) (c.in_ok-bytes.ensures.entries sound))
 
 pub returns-in_err-entries_of-clause-read : goal.returns-in_err-entries_of-clause-read
-returns-in_err-entries_of-clause-read g c = λ s sound shown low high.
-    let rules = g.M.StateMachine.rules in
+returns-in_err-entries_of-clause-read g c = λ rules s sound shown low high.
     let content = g.L.ContentLog.answers c.args.self.now.log c.args.group in
     let held = only_one rules content s (shown.answered sound) in
     let count = c.args.places.end - c.args.places.start in

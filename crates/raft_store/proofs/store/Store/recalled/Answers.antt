@@ -11,8 +11,7 @@ use Rattle.raft_store.proofs.Storing.{only_one}
 use Rattle.raft_store.proofs.store.Store.recalled.Goals as goal
 
 pub returns : goal.returns
-returns g c = λ s sound shown.
-    let rules = g.M.StateMachine.rules in
+returns g c = λ rules s sound shown.
     let content = g.L.ContentLog.answers c.args.self.now.log c.args.group in
     let held = only_one rules content s (shown.answered sound) in
     let between = c.in-Some-between.ensures in
@@ -23,8 +22,7 @@ returns g c = λ s sound shown.
     (remembered rules content s held c.in-Some.recent tail begin end between.low between.some between.high c.in-Some-between.bytes.now between.these)
 
 pub returns-in_err-entries_of : goal.returns-in_err-entries_of
-returns-in_err-entries_of g c = λ s sound shown.
-    let rules = g.M.StateMachine.rules in
+returns-in_err-entries_of g c = λ rules s sound shown.
     let content = g.L.ContentLog.answers c.args.self.now.log c.args.group in
     let held = only_one rules content s (shown.answered sound) in
     let between = c.in-Some-between.ensures in

@@ -17,7 +17,7 @@ returns-clause-ok c = λ s up lawful.
 pub returns-clause-err : goal.returns-clause-err
 returns-clause-err c = λ s up lawful.
     let event = Call c.args.call.now c.args.now in
-    IfErr-weaker c.ask.result _ _ (broken_plain c.args.self.now.replica.id s event (record { replica = c.ask.new.self; stored = c.ask.new.storage }) up.present)
+    IfErr-weaker c.ask.result _ _ (broken_plain c.args.self.now.replica.id s event (record { replica = c.ask.new.self; stored = c.ask.new.storage }) _ up.present)
     (c.ask.ensures.err s (λ triggers. subst (λ (o : Option Snapshot). IsBuilt Same o s) (sym c.as_ref.ensures.value) (c.in-Ok.ensures.up s up triggers)) up lawful)
 
 pub returns-in-Err-clause-err : goal.returns-in-Err-clause-err

@@ -13,7 +13,7 @@ returns-clause-ok c = λ st down openable.
 
 pub returns-clause-err : goal.returns-clause-err
 returns-clause-err c = λ st down openable.
-    on_err_weaker c.open.result (stopped_plain c.args.self.now.replica.id (state_of st) Open (record { replica = c.open.new.self; stored = c.open.new.storage }) down.present)
+    on_err_weaker c.open.result (stopped_plain c.args.self.now.replica.id (state_of st) Open (record { replica = c.open.new.self; stored = c.open.new.storage }) _ down.present)
     (c.open.ensures.err st down openable)
 
 pub returns-clause-up : goal.returns-clause-up

@@ -16,7 +16,7 @@ pub returns-clause-err : goal.returns-clause-err
 returns-clause-err c = λ s up lawful.
     let m = message_of c.args.message.now in
     let event = Receive c.args.message.now.sender m c.args.now in
-    on_err_weaker c.receive.result (stopped_plain c.args.self.now.replica.id s event (record { replica = c.receive.new.self; stored = c.receive.new.storage }) up.present)
+    on_err_weaker c.receive.result (stopped_plain c.args.self.now.replica.id s event (record { replica = c.receive.new.self; stored = c.receive.new.storage }) _ up.present)
     (c.receive.ensures.err m s (says_itself c.args.message.now) up lawful)
 
 pub returns-clause-down : goal.returns-clause-down
