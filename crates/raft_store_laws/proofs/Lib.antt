@@ -1,1 +1,2 @@
 pub mod StorableSteps
+mod Adding

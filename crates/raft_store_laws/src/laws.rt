@@ -1,4 +1,5 @@
 //! What a step stores in any history a store takes.
+ghost use Rattle.raft_machines.specs.Adding.{adding};
 ghost use Rattle.raft_store_laws.specs.Storable.{CommandsAreStorable, HasShortSnapshots, OpeningsAreStorable};
 
 use raft_machines::StateMachine;
@@ -9,4 +10,9 @@ use raft_machines::StateMachine;
 pub fn stored_commands_are_storable<M: StateMachine>()
     ensures commands { HasShortSnapshots M.rules → CommandsAreStorable M.rules }
     ensures openings { HasShortSnapshots M.rules → OpeningsAreStorable M.rules }
+{}
+
+/// The adding machine is such a machine: its snapshot has eight bytes (own).
+pub fn adding_machines_have_short_snapshots()
+    ensures { HasShortSnapshots adding }
 {}

@@ -3,4 +3,4 @@
 
 mod laws;
 
-pub use laws::stored_commands_are_storable;
+pub use laws::{adding_machines_have_short_snapshots, stored_commands_are_storable};
