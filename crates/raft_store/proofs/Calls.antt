@@ -109,7 +109,7 @@ module _ {F : Type 0} (misuse : F → Type 0) (rules : MachineRules) (before aft
   storing_fails old new group c (Ok v) noted err takes = tt
   storing_fails old new group c (Err (Log fault)) noted err takes = λ s shown. (err s shown, fails_anyhow rules after cleaning (noted ∙ none) calm c s)
   storing_fails old new group c (Err (Refused refused)) noted err takes =
-      λ s shown. (err s shown, calm, subst (λ (x : Option StoreRefusal). Bears x c s) (sym noted) (λ is. takes s shown is))
+      λ s shown. (err s shown, (calm, subst (λ (x : Option StoreRefusal). Bears x c s) (sym noted) (λ is. takes s shown is)))
 
   -- a call that reads
   pub reading_fails : {T : Type 0} (r : Result T (StoreFault F)) → after ≡ noted_after before (result_err r) → IfErr r (IsLogOrMemory misuse) → OnErr r (FailsAnyhow (FailsBy rules after cleaning))

@@ -1,19 +1,19 @@
 -- A step's commands are storable, since they fit and have low numbers.
-use Rattle.std.specs.Prelude.{◌≡◌, ◌+◌, ◌≤◌, ◌<◌, ℕ, suc, List, [], ◌∷◌, length, take, Option, Some, None, All, IfSome, IsTrue, refl}
+use Rattle.std.specs.Prelude.{◌≡◌, ◌+◌, ◌≤◌, ◌<◌, ℕ, suc, List, [], ◌∷◌, length, take, Option, Some, None, All, refl}
 use Rattle.std.proofs.Common.{ap, arith}
 use Rattle.raft_values.specs.declared.log_id.LogId.{LogId}
 use Rattle.raft_group_step.specs.Limits.{number_limit}
 use Rattle.raft_group_step.specs.Values.{Entry}
-use Rattle.raft_group_step.specs.StoredGroup.{Snapshot, StoredGroup, StoringCommand, after_storing, after_storing_all, end_place, first_place}
+use Rattle.raft_group_step.specs.StoredGroup.{StoredGroup, StoringCommand, after_storing, after_storing_all, end_place, first_place}
 use Rattle.raft_group_step.specs.StoredGroup.{CutFrom, MakeGroup, PutEntries, RemoveUpTo, SetSnapshot, SetVote, StartAfter}
 use Rattle.raft_group_step.specs.GroupState.{GroupState, state_of}
 use Rattle.raft_group_step.specs.GroupEvent.{GroupEvent, AddGroup, Call, Receive, Open}
 use Rattle.raft_group_step.specs.GroupStep.{group_step}
 use Rattle.raft_group_step.specs.Refusal.{numbers_of_id}
-use Rattle.raft_laws.specs.GroupWorld.{GroupWorld, Recorded, Up}
+use Rattle.raft_laws.specs.GroupWorld.{GroupWorld, Recorded}
 use Rattle.raft_laws.specs.OneList.{IsGroupHistory}
 use Rattle.raft_laws.specs.VotesRise.{stored_of}
-use Rattle.raft_step_laws.specs.Fitting.{AllFit, ArePlacedFrom, ComesWithin, FitsEvent, FitsPut, FitsStored, FitsStoring, IsCommittedWithin, StepFits}
+use Rattle.raft_step_laws.specs.Fitting.{AllFit, ArePlacedFrom, ComesWithin, FitsEvent, FitsStored, FitsStoring, IsCommittedWithin, StepFits}
 use Rattle.raft_step_laws.specs.Numbers.{AreLow, BringsLowPrefix, EachPeer, HasLowId, IsLowPeer, IsLowStored, StepIsLow}
 use Rattle.raft_step_laws.proofs.FitSteps.{steps_fit}
 use Rattle.raft_step_laws.proofs.LowSteps.{steps_send_low}
