@@ -1,6 +1,6 @@
 -- Where a node on files stands, as the node in it.
 use Rattle.std.specs.Prelude.{◌≡◌, ℕ, List, Option, Some, Contains}
-use Rattle.std.proofs.Common.{sym, subst}
+use Rattle.std.proofs.Common.{inl, sym, subst}
 use Rattle.raft_applier.specs.Following.{AreOfMachine}
 use Rattle.raft_headline.specs.ClusterEvent.{Recorded}
 use Rattle.raft_headline.specs.Machines.{KeepsItsLaw}
