@@ -1,7 +1,7 @@
 -- Why an event of a group stopped, in a state to which a history leads.
-use Rattle.std.specs.Prelude.{◌≡◌, ℕ, Bool, true, false, List, [], ◌∷◌, slice_get, Option, Some, None, Result, Ok, Err, Vec, Contains, is_some, refl}
+use Rattle.std.specs.Prelude.{◌≡◌, ℕ, Bool, true, false, List, [], ◌∷◌, slice_get, Some, Result, Err, Vec, Contains, is_some, refl}
 use Rattle.std.specs.Global.{Global}
-use Rattle.std.proofs.Common.{inl, inr, sym, ap, ◌∙◌, subst}
+use Rattle.std.proofs.Common.{inl, inr, sym, ap, subst}
 use Rattle.raft_framed_groups.specs.Frames.{AnyNotFramed}
 use Rattle.raft_group_step.specs.GroupEvent.{AddGroup, GroupEvent}
 use Rattle.raft_group_step.specs.GroupState.{GroupState, no_group, state_of}
@@ -36,11 +36,10 @@ use Rattle.raft_node_joint.specs.Leading.{IsAdding, StandsBefore}
 use Rattle.raft_node_joint.specs.Standing.{IsUpIn, MayBe}
 use Rattle.raft_node_joint.proofs.Others.{shows_it}
 use Rattle.raft_node_joint.proofs.Whole.{IsIn, is_in, is_reached}
-use Rattle.raft_step_laws.specs.Fitting.{ComesWithin, FitsEvent, FitsStored}
-use Rattle.raft_step_laws.specs.Numbers.{BringsLowPrefix}
 use Rattle.raft_store.specs.Reading.{StandsFor}
 use Rattle.raft_store_laws.specs.Storable.{AllStorable, HasShortSnapshots}
 use Rattle.raft_store_laws.proofs.StorableSteps.{commands_are_storable, what_comes}
+use Rattle.raft_wire.specs.declared.error.FrameError.{FrameError}
 use Rattle.raft_wire.specs.declared.error.FrameError.TheVariants as frame_error
 use Rattle.raft_nodes_on_logs.specs.Acts.{Meets}
 use Rattle.raft_nodes_on_logs.specs.Answering.{cause_of}
@@ -145,10 +144,8 @@ module _ (k : NodeKind) (short : HasShortSnapshots k.rules) where
   abbrev of : UpNode k → NodeValue
   of n = value k n
 
-  pub used_well : (x : UpNode k) (olds : ℕ → List NodeState) → (of x).groups.has_failed ≡ false → ((h : ℕ) → MayBe k.rules (of x) h (olds h)) → is_used_well k x.groups.storage
-  used_well x olds going may_be =
-      let parts = shown_parts k.rules (of x) olds going may_be in
-      (parts.0.0, λ h. (k.rules, (parts.1 h).0, (parts.1 h).1))
+  pub used_well : (x : UpNode k) → (of x).groups.is_well × ((h : ℕ) → (s : StoredGroup) × (of x).groups.shows h (s ∷ [])) → is_used_well k x.groups.storage
+  used_well x parts = (parts.0.0, λ h. (k.rules, (parts.1 h).0, (parts.1 h).1))
 
   module _ (n m : UpNode k) (plain : NodeValue) (group : ℕ) (ids : List ℕ) (history : List Recorded) (own : (of m).groups.own ≡ plain.groups.own) (used : is_used_well k n.groups.storage) where
     -- a fault of its storage
@@ -162,7 +159,7 @@ module _ (k : NodeKind) (short : HasShortSnapshots k.rules) where
         (subst (λ i. AllStorable k.rules s.stored (group_step i s e).commands) (sym own) storable) left.failed)
 
     -- a message has no frame
-    of_frame : (s : GroupState) (e : GroupEvent) (why : _) → StandsInWorld k.rules ids group history plain.groups.own (Up s) → WasSent (sent_by group history) e
+    of_frame : (s : GroupState) (e : GroupEvent) (why : FrameError) → StandsInWorld k.rules ids group history plain.groups.own (Up s) → WasSent (sent_by group history) e
         → IsCausedBy {F = KeepingFault k} (StandsFor k.rules) group (group_step (of m).groups.own s e).messages (cause.Frame why) → IsOwnCause k n m (cause_of k.cause (cause.Frame why))
     of_frame s e frame_error.Memory world was caused = inl refl
     of_frame s e frame_error.StreamFailed world was (messages, says, none) = absurd (no_stream group messages none)

@@ -1,8 +1,7 @@
 -- Each call of a node over a log stops it for its cause.
-use Rattle.std.specs.Prelude.{◌≡◌, ℕ, true, List, [], length, Option, Some, None, Result, Ok, Err}
+use Rattle.std.specs.Prelude.{◌≡◌, true, [], length, Option, Some, None, Ok, Err}
 use Rattle.std.proofs.Common.{subst}
 use Rattle.raft_cluster_conditions.specs.Cuts.{are_cuts}
-use Rattle.raft_framed_groups.specs.Frames.{frame_with}
 use Rattle.raft_headline.specs.Machines.{KeepsItsLaw}
 use Rattle.raft_node_laws.specs.Delivery.{Comes, pieces_from}
 use Rattle.raft_store_laws.specs.Storable.{HasShortSnapshots}
@@ -10,7 +9,7 @@ use Rattle.raft_nodes_on_logs.specs.Acts.{AddsTo, AsksTo, ReopensTo, WhenDown, W
 use Rattle.raft_nodes_on_logs.specs.Kinds.{NodeKind}
 use Rattle.raft_nodes_on_logs.specs.Standing.{NodeOf, UpNode}
 use Rattle.raft_stop_causes.specs.Causes.{StopForCause}
-use Rattle.raft_stop_causes.proofs.Causes.{added_cause, asked_cause, delivered_cause}
+use Rattle.raft_stop_causes.proofs.Calls.{added_cause, asked_cause, delivered_cause}
 use Rattle.raft_stop_causes.proofs.Openings.{unopened_cause}
 
 module _ (k : NodeKind) (short : HasShortSnapshots k.rules) (begins : KeepsItsLaw k.rules k.rules.first) (restores : (m : k.Machine) → KeepsItsLaw k.rules (k.state m)) where

@@ -1,6 +1,6 @@
 mod Stored
 mod Events
-mod Causes
+mod Calls
 mod Openings
 mod Law
-mod Files
+mod OnFiles

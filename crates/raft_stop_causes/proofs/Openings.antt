@@ -1,13 +1,12 @@
 -- Why an opening of a node over a log isn't done.
-use Rattle.std.specs.Prelude.{◌≡◌, ◌⊎◌, ℕ, List, [], Option, Some, None, Result, Ok, Err, refl}
-use Rattle.std.proofs.Common.{inl, inr, sym, ap, ◌∙◌, subst}
+use Rattle.std.specs.Prelude.{◌≡◌, ◌⊎◌, ℕ, Bool, List, [], Option, None, refl}
+use Rattle.std.proofs.Common.{inl, inr, sym, subst}
 use Rattle.raft_cluster_events.specs.declared.outcome.Stop.{Stop}
-use Rattle.raft_cluster_events.specs.declared.outcome.StopCause.{StopCause}
 use Rattle.raft_cluster_events.specs.declared.outcome.StopCause.TheVariants as stop_cause
 use Rattle.raft_group_step.specs.GroupEvent.{Open}
 use Rattle.raft_group_step.specs.GroupState.{no_group, state_of}
 use Rattle.raft_group_step.specs.GroupStep.{group_step}
-use Rattle.raft_group_step.specs.StoredGroup.{MakeGroup, StoredGroup}
+use Rattle.raft_group_step.specs.StoredGroup.{StoredGroup}
 use Rattle.raft_headline.specs.ClusterEvent.{Recorded}
 use Rattle.raft_headline.specs.Machines.{KeepsItsLaw}
 use Rattle.raft_laws.specs.GroupWorld.{Down}
@@ -22,7 +21,6 @@ use Rattle.raft_node_faults.specs.declared.fault.Fault.TheVariants as fault
 use Rattle.raft_node_laws.specs.Law.{Anything}
 use Rattle.raft_store.specs.Faults.{Meets}
 use Rattle.raft_store.specs.Storable.{FailsBy}
-use Rattle.raft_store.specs.declared.fault.StoreFault.{StoreFault}
 use Rattle.raft_store.specs.declared.fault.StoreRefusal.{StoreRefusal}
 use Rattle.raft_store_laws.specs.Storable.{HasShortSnapshots}
 use Rattle.raft_store_laws.proofs.StorableSteps.{openings_are_storable}
@@ -38,7 +36,7 @@ use Rattle.raft_stop_causes.proofs.Stored.{IsNotedMemory, first_stored, stored_a
 
 -- where a store may have failed in an opening that a history leads to
 noted_in : (rules : MachineRules) → HasShortSnapshots rules → (ids : List ℕ) (history : List Recorded) (own : ℕ) (parts : ℕ → StoredGroup) → ((h : ℕ) → StandsInWorld rules ids h history own (Down (parts h)))
-    → (noted : Option StoreRefusal) (cleaning : _) → FailsInOpening (FailsBy rules noted cleaning) own parts → IsNotedMemory noted cleaning
+    → (noted : Option StoreRefusal) (cleaning : Bool) → FailsInOpening (FailsBy rules noted cleaning) own parts → IsNotedMemory noted cleaning
 noted_in rules short ids history own parts worlds noted cleaning (inl anyhow) = first_stored rules noted cleaning [] no_group tt anyhow
 noted_in rules short ids history own parts worlds noted cleaning (inr (group, present, number, fails)) =
     let world = worlds group in
@@ -47,7 +45,7 @@ noted_in rules short ids history own parts worlds noted cleaning (inr (group, pr
 
 module _ (k : NodeKind) (short : HasShortSnapshots k.rules) (begins : KeepsItsLaw k.rules k.rules.first) (restores : (m : k.Machine) → KeepsItsLaw k.rules (k.state m)) where
   -- the calls of the opened log met it, or a frame is past its limit
-  why_left : (log_meets : Option k.Fault → Type 0) (before after : Type 0) (noted : Option StoreRefusal) (cleaning : _) (why : Fault (KeepingFault k)) → before
+  why_left : (log_meets : Option k.Fault → Type 0) (before after : Type 0) (noted : Option StoreRefusal) (cleaning : Bool) (why : Fault (KeepingFault k)) → before
       → Meets log_meets k.misuse before after noted cleaning (storage_fault_of why) → IsNotedMemory noted cleaning → StopsNaming (λ group. None) why
       → IsOfLog k log_meets (stop_in k.cause why).cause ⊎ ((stop_in k.cause why).cause ≡ stop_cause.TooLong)
   why_left log_meets before after noted cleaning (fault.Stopped c unknown) used meets memory names = by_cause c meets

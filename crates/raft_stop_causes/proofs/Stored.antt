@@ -1,7 +1,7 @@
 -- A store refuses nothing of what histories store but for want of memory, and no frame of theirs is past its limits.
-use Rattle.std.specs.Prelude.{◌≡◌, ◌⊎◌, ◌≤◌, ℕ, zero, suc, Bool, true, false, List, [], ◌∷◌, length, take, drop, Option, Some, None, IfSome, All, Contains, refl}
+use Rattle.std.specs.Prelude.{◌≡◌, ◌⊎◌, ℕ, zero, suc, Bool, true, false, List, [], ◌∷◌, take, drop, Option, Some, None, IfSome, All, refl}
 use Rattle.std.specs.List.{AllZip}
-use Rattle.std.proofs.Common.{inl, inr, sym, ap, ◌∙◌, subst, ⊎_elim}
+use Rattle.std.proofs.Common.{inl, inr, sym, ap, ◌∙◌, subst}
 use Rattle.std.proofs.lemmas.List.Elements.{All-cons, All-contains, All-nil}
 use Rattle.raft_executor.specs.Said.{Says, SaysAll, SaysBody}
 use Rattle.raft_executor.specs.Stored.{FailsAt, FailsFirst}
@@ -11,7 +11,6 @@ use Rattle.raft_framed_groups.specs.Frames.{AnyNotFramed}
 use Rattle.raft_group_step.specs.GroupEvent.{GroupEvent}
 use Rattle.raft_group_step.specs.GroupState.{GroupState}
 use Rattle.raft_group_step.specs.GroupStep.{group_step}
-use Rattle.raft_group_step.specs.Limits.{snapshot_limit}
 use Rattle.raft_group_step.specs.Message.{Message, MessageBody}
 use Rattle.raft_group_step.specs.StoredGroup.{MakeGroup, StoredGroup, StoringCommand, after_storing, after_storing_all}
 use Rattle.raft_messages.specs.declared.memberships.SnapshotBytes.{SnapshotBytes}

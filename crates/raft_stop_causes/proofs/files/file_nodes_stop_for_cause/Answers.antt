@@ -1,6 +1,6 @@
 -- By what a node over any log does.
 use Rattle.raft_nodes_on_files.specs.OnFiles.{on_files}
-use Rattle.raft_stop_causes.proofs.Files.{stop_on_files}
+use Rattle.raft_stop_causes.proofs.OnFiles.{stop_on_files}
 use Rattle.raft_stop_causes.proofs.Law.{stop_for_cause}
 use Rattle.raft_stop_causes.proofs.files.file_nodes_stop_for_cause.Goals as goal
 

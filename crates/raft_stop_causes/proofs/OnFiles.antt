@@ -1,5 +1,5 @@
 -- A node on files stops for what its files counted, and nothing is too long.
-use Rattle.std.specs.Prelude.{◌≡◌, ℕ, List, Some, Result}
+use Rattle.std.specs.Prelude.{ℕ, List}
 use Rattle.std.proofs.Common.{inl, inr, sym, subst}
 use Rattle.raft_cluster_events.specs.declared.outcome.StopCause.{StopCause}
 use Rattle.raft_log_disk.specs.MemorySystem.{meter_in}

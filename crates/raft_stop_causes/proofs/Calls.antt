@@ -1,5 +1,5 @@
 -- Why a call that stops a node over a log does so.
-use Rattle.std.specs.Prelude.{◌≡◌, ◌⊎◌, ◌<◌, ◌==◌, ◌&&◌, ℕ, Bool, true, false, List, [], ◌∷◌, length, slice_get, Option, Some, None, Result, Ok, Err, Vec, Contains, refl}
+use Rattle.std.specs.Prelude.{◌≡◌, ℕ, Bool, true, false, List, [], ◌∷◌, length, Option, Some, Result, Ok, Err, Vec, refl}
 use Rattle.std.specs.Global.{Global}
 use Rattle.std.proofs.Common.{inl, inr, sym, ap, ◌∙◌, subst, ⊎_elim}
 use Rattle.raft_cluster_conditions.specs.Cuts.{are_cuts}
@@ -14,14 +14,13 @@ use Rattle.raft_cluster_events.specs.declared.outcome.StopCause.TheVariants as s
 use Rattle.raft_cluster_laws.specs.Along.{scene_behind, sent_by}
 use Rattle.raft_framed_groups.specs.Answers.{is_right_party}
 use Rattle.raft_framed_groups.specs.Frames.{frame_with}
-use Rattle.raft_group_step.specs.GroupEvent.{Call, GroupCall, GroupEvent, Receive}
+use Rattle.raft_group_step.specs.GroupEvent.{Call, GroupCall, Receive}
 use Rattle.raft_group_step.specs.Message.{Message}
 use Rattle.raft_group_step.specs.declared.group_call.GroupCall.TheVariants.{Initialize}
-use Rattle.raft_headline.specs.ClusterEvent.{Ask, Deliver, Recorded}
+use Rattle.raft_headline.specs.ClusterEvent.{Ask, Deliver}
 use Rattle.raft_headline.specs.Machines.{KeepsItsLaw}
 use Rattle.raft_laws.specs.declared.world_event.WorldEvent.TheVariants as event
 use Rattle.raft_laws.specs.GroupRun.{At}
-use Rattle.raft_laws.specs.GroupWorld.{NodeState}
 use Rattle.raft_laws.specs.NodeEvent.{Comes as ComesTo}
 use Rattle.raft_machines.specs.declared.telling.UnknownTokens.{UnknownTokens}
 use Rattle.raft_node.specs.Asking.{without_its_why}
@@ -51,17 +50,17 @@ use Rattle.raft_store_laws.specs.Storable.{HasShortSnapshots}
 use Rattle.raft_wire.specs.Frames.{spelled_frame}
 use Rattle.raft_wire.specs.Stream.{fresh}
 use Rattle.raft_wire.specs.declared.frame.Frame.{Frame}
-use Rattle.raft_nodes_on_logs.specs.Acts.{AddsTo, AsksTo, FeedsTo, IsFedOn, IsPassed, IsUpAs, Meets, WhenUp, log_node_acts, log_node_states, refused, some_outcome}
+use Rattle.raft_nodes_on_logs.specs.Acts.{AddsTo, AsksTo, FeedsTo, IsFedOn, IsPassed, Meets, WhenUp, log_node_acts, refused, some_outcome}
 use Rattle.raft_nodes_on_logs.specs.Answering.{cause_of, error_of, node_outcome, stop_in}
 use Rattle.raft_nodes_on_logs.specs.Kept.{KeepingFault}
 use Rattle.raft_nodes_on_logs.specs.Kinds.{NodeKind}
-use Rattle.raft_nodes_on_logs.specs.Standing.{MayBeUp, NodeOf, UpNode, value}
+use Rattle.raft_nodes_on_logs.specs.Standing.{NodeOf, UpNode, value}
 use Rattle.raft_nodes_on_logs.proofs.Keeping.{spelled_some}
-use Rattle.raft_nodes_on_logs.proofs.Pieces.{CameOrNot, CameWhole, LackedRoom, pieces_come}
-use Rattle.raft_nodes_on_logs.proofs.Standing.{are_of_machine, is_up_in, machines_law, stands_before}
-use Rattle.raft_nodes_on_logs.proofs.Taken.{Answer, Behind}
+use Rattle.raft_nodes_on_logs.proofs.Pieces.{CameWhole, LackedRoom, pieces_come}
+use Rattle.raft_nodes_on_logs.proofs.Standing.{is_up_in, machines_law, stands_before}
+use Rattle.raft_nodes_on_logs.proofs.Taken.{Answer}
 use Rattle.raft_stop_causes.specs.Causes.{IsLedTo, IsOwnCause, StopsAtPiece}
-use Rattle.raft_stop_causes.proofs.Events.{adding_cause, adding_stopped, err_is, event_cause, event_stopped, used_well, was_sent}
+use Rattle.raft_stop_causes.proofs.Events.{adding_cause, adding_stopped, err_is, event_cause, event_stopped, shown_parts, used_well, was_sent}
 
 -- ---- an answer that is a stop
 
@@ -108,7 +107,7 @@ ok_no_stop x e wrong = absurd cc
 same_some : {A : Type 0} (x y : A) → Some x ≡ Some y → x ≡ y
 same_some x y is = cc
 
-stopped_alike : {F : Type 0} (call : GroupCall) (c : Cause F) (unknown : Vec UnknownTokens Global) → without_its_why {F = F} call (Err (fault.Stopped c unknown)) ≡ Err (fault.Stopped c unknown)
+stopped_alike : {F : Type 0} (call : GroupCall) (c : Cause F) (unknown : Vec UnknownTokens Global) → without_its_why {T = Outcome} {F = F} call (Err (fault.Stopped c unknown)) ≡ Err (fault.Stopped c unknown)
 stopped_alike (Initialize m) c unknown = refl
 stopped_alike call c unknown = refl
 
@@ -159,7 +158,7 @@ module _ (k : NodeKind) (short : HasShortSnapshots k.rules) (begins : KeepsItsLa
             (subst (λ i. scene_behind group here.history (event.Ask i call now) ≡ At i (ComesTo (Call call now))) (sym own) here.kind) in
             let t = event_stopped k.rules (StandsFor k.rules) (a.mid ≡ n) (of n) (of a.mid) group c unknown here.ids here.history here.olds before
             (Call call now) (Ask (of n).groups.own group call now) comes e in
-            event_cause k short n a.mid (of n) group here.ids here.history e.elsewhere.own (used_well k short n here.olds t.going before.may_be) (Call call now) c unknown.items
+            event_cause k short n a.mid (of n) group here.ids here.history e.elsewhere.own (used_well k short n (shown_parts k.rules (of n) here.olds t.going before.may_be)) (Call call now) c unknown.items
             (subst (λ r. Meets k n a.mid (fault_met_by_node r)) is a.met) tt t
 
     pub added_cause : IsLedTo k Anything old → AddsTo k n group old answered new → IsOwnCause k n m stop.cause
@@ -173,7 +172,7 @@ module _ (k : NodeKind) (short : HasShortSnapshots k.rules) (begins : KeepsItsLa
             let adding : IsAdding k.rules (StandsFor k.rules) (a.mid ≡ n) (of n) (of a.mid) group (Err (fault.Stopped c unknown)) =
             subst (IsAdding k.rules (StandsFor k.rules) (a.mid ≡ n) (of n) (of a.mid) group) is a.adding in
             let t = adding_stopped k.rules (StandsFor k.rules) (a.mid ≡ n) (of n) (of a.mid) group c unknown here.ids here.history here.olds before adding in
-            adding_cause k short n a.mid (of n) group here.ids here.history adding.elsewhere.own (used_well k short n here.olds t.going before.may_be) c
+            adding_cause k short n a.mid (of n) group here.ids here.history adding.elsewhere.own (used_well k short n (shown_parts k.rules (of n) here.olds t.going before.may_be)) c
             (subst (λ r. Meets k n a.mid (fault_met_by_node r)) is a.met) t
 
   -- ---- a frame that comes in pieces
@@ -222,7 +221,7 @@ module _ (k : NodeKind) (short : HasShortSnapshots k.rules) (begins : KeepsItsLa
         going : plain.groups.has_failed ≡ false
         going = came.along.stays.has_failed ∙ alive
 
-        abbrev Same : Type 0
+        Same : Type 0
         Same = StaysBut (of came.x) (of came.y) m.sender
 
         when : (c : Cause (KeepingFault k)) (unknown : Vec UnknownTokens Global) → came.result ≡ Err (fault.Stopped c unknown) → IsOwnCause k came.x came.y (cause_of k.cause c)
@@ -242,7 +241,7 @@ module _ (k : NodeKind) (short : HasShortSnapshots k.rules) (begins : KeepsItsLa
                 let comes = messages_come plain.groups.own group number now m here.history here.kind (to ∙ sym (same.own ∙ own_is)) in
                 let t = event_stopped k.rules (StandsFor k.rules) Same plain (of came.y) group c unknown here.ids here.history here.olds before
                 (Receive m.sender m now) (Deliver group number now) comes e in
-                event_cause k short came.x came.y plain group here.ids here.history f.elsewhere.own (used_well k short came.x here.olds t.going before.may_be) (Receive m.sender m now) c unknown.items
+                event_cause k short came.x came.y plain group here.ids here.history f.elsewhere.own (used_well k short came.x (shown_parts k.rules plain here.olds t.going before.may_be)) (Receive m.sender m now) c unknown.items
                 (subst (λ r. Meets k came.x came.y (fault_met_by_node r)) is came.met) (was_sent (sent_by group here.history) number m here.kind) t
             by_party false wrong = absurd (stop_is_right c unknown (err_is (Err (fault.Stopped c unknown)) _ _ refl (f.wrong wrong).0))
 
