@@ -1,0 +1,10 @@
+pub mod Clock
+pub mod Config
+pub mod Draw
+pub mod Election
+pub mod Fault
+pub mod Interval
+pub mod Lead
+pub mod Policy
+pub mod Request
+pub mod Timers
