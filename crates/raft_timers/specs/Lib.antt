@@ -3,7 +3,9 @@ pub mod Config
 pub mod Draw
 pub mod Election
 pub mod Fault
+pub mod History
 pub mod Interval
+pub mod Laws
 pub mod Lead
 pub mod Policy
 pub mod Request

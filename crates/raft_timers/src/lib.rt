@@ -5,6 +5,7 @@ mod config;
 mod draw;
 mod election;
 mod interval;
+mod laws;
 mod lead;
 mod policy;
 mod request;
@@ -16,9 +17,14 @@ pub use config::{TimerConfig, TimerFault, TimerSettings};
 pub use draw::draw_timeout;
 pub use election::ElectionTimer;
 pub use interval::Interval;
+pub use laws::{
+    elections_are_apart, elections_come_neither_early_nor_late, heartbeats_are_apart,
+    logs_are_made_shorter_by_policy, lost_requests_have_waited, timeouts_lie_within_their_bounds,
+    want_of_a_quorum_is_told_in_time,
+};
 pub use lead::Lead;
 pub use policy::{is_snapshot_due, purge_place};
-pub use request::{Request};
+pub use request::RequestTimer;
 pub use timers::Timers;
 pub use view::GroupView;
 pub use wanted::Wanted;

@@ -8,7 +8,7 @@ use std::alloc::{AllocError, Global};
 
 /// What is noted of the requests to a peer (own): one is on its way at most.
 #[derive(Clone, Copy, Debug, PartialEq, Eq)]
-pub struct Request {
+pub struct RequestTimer {
     /// The peer.
     pub peer: u64,
     /// The moment at which one was first seen to wait for its answer, while it does.
@@ -17,12 +17,12 @@ pub struct Request {
     pub timeout: u64,
 }
 
-impl Request {
+impl RequestTimer {
     /// None is seen to wait yet.
-    pub fn new(settings: &TimerSettings, peer: u64) -> Request
+    pub fn new(settings: &TimerSettings, peer: u64) -> RequestTimer
         ensures { result ≡ new_request settings.now peer }
     {
-        Request {
+        RequestTimer {
             peer,
             waits_from: None,
             timeout: settings.request_timeout,
@@ -44,7 +44,7 @@ impl Request {
         ensures { self.new ≡ request_after settings.now is_waiting now self.old }
     {
         if !is_waiting {
-            *self = Request::new(settings, self.peer);
+            *self = RequestTimer::new(settings, self.peer);
         } else if self.waits_from.is_none() {
             self.waits_from = Some(now);
         } else if self.is_lost(is_waiting, now) {
@@ -58,7 +58,7 @@ impl Request {
         ensures { self.new ≡ answered_by settings.now peer self.old }
     {
         if self.peer == peer {
-            *self = Request::new(settings, peer);
+            *self = RequestTimer::new(settings, peer);
         }
     }
 }
@@ -66,7 +66,7 @@ impl Request {
 /// The peers whose requests are to be told lost, in their order.
 pub(crate) fn lost_peers(
     alloc: Global,
-    requests: &[Request],
+    requests: &[RequestTimer],
     waiting: &[u64],
     now: u64,
 ) -> Result<Vec<u64>, AllocError>
@@ -82,7 +82,7 @@ pub(crate) fn lost_peers(
 /// Notes of each request whether it waits now.
 pub(crate) fn tick_requests(
     settings: &TimerSettings,
-    requests: &mut [Request],
+    requests: &mut [RequestTimer],
     waiting: &[u64],
     now: u64,
 )
@@ -95,7 +95,7 @@ pub(crate) fn tick_requests(
 }
 
 /// The peer has answered.
-pub(crate) fn hear_answer(settings: &TimerSettings, requests: &mut [Request], peer: u64)
+pub(crate) fn hear_answer(settings: &TimerSettings, requests: &mut [RequestTimer], peer: u64)
     ensures { requests.new ≡ requests_answered settings.now peer requests.old }
 {
     for request in requests.iter_mut() {
@@ -104,7 +104,7 @@ pub(crate) fn hear_answer(settings: &TimerSettings, requests: &mut [Request], pe
 }
 
 // What is noted of the peer, or of one that is new.
-fn kept_request(settings: &TimerSettings, requests: &[Request], peer: u64) -> Request
+fn kept_request(settings: &TimerSettings, requests: &[RequestTimer], peer: u64) -> RequestTimer
     ensures { result ≡ kept_request settings.now requests.now peer }
 {
     for request in requests {
@@ -112,16 +112,16 @@ fn kept_request(settings: &TimerSettings, requests: &[Request], peer: u64) -> Re
             return *request;
         }
     }
-    Request::new(settings, peer)
+    RequestTimer::new(settings, peer)
 }
 
 /// The requests of these peers, as far as they are known.
 pub(crate) fn requests_of(
     alloc: Global,
     settings: &TimerSettings,
-    requests: &[Request],
+    requests: &[RequestTimer],
     peers: &[u64],
-) -> Result<Vec<Request>, AllocError>
+) -> Result<Vec<RequestTimer>, AllocError>
     ensures { IfOk result (λ kept. kept.items ≡ requests_of settings.now requests.now peers.now) }
 {
     peers

@@ -10,7 +10,7 @@ use crate::config::TimerConfig;
 use crate::election::ElectionTimer;
 use crate::lead::{Lead, lacks_quorum, tick_lead};
 use crate::policy::{is_snapshot_due, purge_place};
-use crate::request::{Request, hear_answer, lost_peers, requests_of, tick_requests};
+use crate::request::{RequestTimer, hear_answer, lost_peers, requests_of, tick_requests};
 use crate::view::GroupView;
 use crate::wanted::Wanted;
 use rand_core::SeedableRng;
@@ -18,7 +18,7 @@ use rand_xoshiro::SplitMix64;
 use std::alloc::{AllocError, Global};
 use std::marker::Model;
 
-/// The clock of one group at one node (own). Its size is fixed but for one `Request` a peer.
+/// The clock of one group at one node (own). Its size is fixed but for one `RequestTimer` for each peer.
 #[derive(Drop)]
 pub struct Timers {
     alloc: Global,
@@ -26,7 +26,7 @@ pub struct Timers {
     now: u64,
     election: ElectionTimer,
     lead: Option<Lead>,
-    requests: Vec<Request>,
+    requests: Vec<RequestTimer>,
 }
 
 impl Model for Timers {
