@@ -76,7 +76,7 @@ beaten : (s : TimerSettings) (view : GroupView) (now : ℕ) (lead : Option Lead)
 beaten s view now None h due = absurd (cc)
 beaten s view now (Some l) h due =
     let parts : (leads view.role ≡ true) × (is_interval_over l.heartbeat now ≡ true) =
-        and_parts (leads view.role) (is_interval_over l.heartbeat now) due in
+    and_parts (leads view.role) (is_interval_over l.heartbeat now) due in
     led_anew s now l (leads view.role) parts.0 parts.1 h
 
 pub beats_anew : (c : Clock) (view : GroupView) (waiting : _) (now : ℕ) → BeatsOn 0 c → AsksHeartbeat c view now
@@ -93,8 +93,8 @@ beat_is_late config m view now (Some l) h due =
     let length = h.length in
     let positive = config.heartbeat in
     let over =
-        passed l.heartbeat.length l.heartbeat.from now (omega arith)
-        (and_parts (leads view.role) (is_interval_over l.heartbeat now) due).1 in
+    passed l.heartbeat.length l.heartbeat.from now (omega arith)
+    (and_parts (leads view.role) (is_interval_over l.heartbeat now) due).1 in
     omega arith
 
 pub beats_late : (m : ℕ) (c : Clock) (view : GroupView) (now : ℕ) → BeatsOn m c → AsksHeartbeat c view now

@@ -26,7 +26,7 @@ drawn_anew config now random =
 
 drawn_ticked : (config : TimerConfig) (now : ℕ) (e : ElectionTimer) (due leading : Bool) → IsDrawn config.settings e
     → IsDrawn config.settings
-        (if due then first_wait config.settings now e.random else if leading then record e { from = now } else e)
+    (if due then first_wait config.settings now e.random else if leading then record e { from = now } else e)
 drawn_ticked config now e true leading h = drawn_anew config now e.random
 drawn_ticked config now e false true h = record { least = h.least; most = h.most }
 drawn_ticked config now e false false h = h

@@ -17,8 +17,8 @@ lacks_late config None view now heard is lacks = absurd (cc)
 lacks_late config (Some l) view now heard is lacks =
     let silence = config.silence in
     let over =
-        passed config.settings.election_min (unheard_since l view) now (omega arith)
-        (and_parts (leads view.role) (have_passed config.settings.election_min (unheard_since l view) now) lacks).1 in
+    passed config.settings.election_min (unheard_since l view) now (omega arith)
+    (and_parts (leads view.role) (have_passed config.settings.election_min (unheard_since l view) now) lacks).1 in
     let known = ap (λ (o : Option ℕ). unwrap_or o 0) is in
     omega arith
 

@@ -20,8 +20,8 @@ stands_late c view now drawn asks =
     let least = drawn.least in
     let silence = c.config.silence in
     let over =
-        passed c.election.timeout (quiet_since c.election view) (moment c now) (omega arith)
-        (and_parts (may_stand view.role) (have_passed c.election.timeout (quiet_since c.election view) (moment c now)) asks).1 in
+    passed c.election.timeout (quiet_since c.election view) (moment c now) (omega arith)
+    (and_parts (may_stand view.role) (have_passed c.election.timeout (quiet_since c.election view) (moment c now)) asks).1 in
     omega arith
 
 -- once the greatest one is over
@@ -52,8 +52,8 @@ waits_on m (Ticks now view waiting) c h =
     record {
       now = within;
       from =
-        from_ticked m c.config.settings (moment c now) c.election (is_election_due c.election view (moment c now)) (leads view.role)
-        within h.from;
+          from_ticked m c.config.settings (moment c now) c.election (is_election_due c.election view (moment c now)) (leads view.role)
+          within h.from;
     }
 waits_on m (Answers peer) c h = record { now = h.now; from = h.from }
 waits_on m (Peers peers) c h = record { now = h.now; from = h.from }
@@ -69,5 +69,5 @@ waits_anew c view waiting now asks =
     record {
       now = omega arith;
       from =
-        from_due c.config.settings (moment c now) c.election (is_election_due c.election view (moment c now)) (leads view.role) asks;
+          from_due c.config.settings (moment c now) c.election (is_election_due c.election view (moment c now)) (leads view.role) asks;
     }

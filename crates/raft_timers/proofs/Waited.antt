@@ -57,8 +57,8 @@ long_by_call : (call : Call) (c : Clock) → AreLong c → AreLong (after_call c
 long_by_call (Ticks now view waiting) c h =
     All-map (IsLong c.config.settings) _ c.requests
     (λ k d within.
-      let r : RequestTimer = get_or c.requests k d in
-      long_after c.config (is_among waiting r.peer) (moment c now) r (h k d within))
+    let r : RequestTimer = get_or c.requests k d in
+    long_after c.config (is_among waiting r.peer) (moment c now) r (h k d within))
 long_by_call (Answers peer) c h =
     All-map (IsLong c.config.settings) _ c.requests (λ k d within. long_answered c.config.settings _ peer _ (h k d within))
 long_by_call (Peers peers) c h =
@@ -97,10 +97,10 @@ told : (c : Clock) (waiting : List ℕ) (now peer : ℕ) → AreLong c
     → (r : RequestTimer) × IsTold waiting (moment c now) c.requests peer r → HasWaited c waiting now peer
 told c waiting now peer long (r, (noted, of_peer, lost)) =
     let parts : (is_among waiting r.peer ≡ true) × (has_waited r.timeout r.waits_from (moment c now) ≡ true) =
-        and_parts (is_among waiting r.peer) (has_waited r.timeout r.waits_from (moment c now)) lost in
+    and_parts (is_among waiting r.peer) (has_waited r.timeout r.waits_from (moment c now)) lost in
     let least : IsLong c.config.settings r = All-contains (IsLong c.config.settings) c.requests r long noted in
     let waited : (since : ℕ) × (r.waits_from ≡ Some since) × (since + r.timeout ≤ moment c now) =
-        waited_since c.config (moment c now) r r.waits_from least parts.1 in
+    waited_since c.config (moment c now) r r.waits_from least parts.1 in
     record {
       timer = r;
       noted = noted;
@@ -118,4 +118,4 @@ lost_have_waited h waiting now peer lost =
     let c : Clock = clock_of h in
     told c waiting now peer (long_of h)
     (All-contains (λ p. (r : RequestTimer) × IsTold waiting (moment c now) c.requests p r)
-      (lost_peers waiting (moment c now) c.requests) peer (has_told waiting (moment c now) c.requests) lost)
+    (lost_peers waiting (moment c now) c.requests) peer (has_told waiting (moment c now) c.requests) lost)

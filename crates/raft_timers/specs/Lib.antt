@@ -7,6 +7,8 @@ pub mod History
 pub mod Interval
 pub mod Laws
 pub mod Lead
+pub mod Majority
 pub mod Policy
 pub mod Request
+pub mod Rows
 pub mod Timers

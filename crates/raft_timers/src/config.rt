@@ -3,6 +3,7 @@ ghost use Rattle.std.specs.Prelude.{◌≡◌, ◌<◌, ◌≤◌, None, Some, I
 ghost use Rattle.raft_timers.specs.Config.{usual};
 ghost use Rattle.raft_timers.specs.Fault.{fault_of};
 
+use crate::interval::Interval;
 use thiserror::Error;
 
 /// What a clock is to be set up with (own): times in ticks, log entries in numbers of them.
@@ -106,5 +107,12 @@ impl TimerConfig {
             return Err(TimerFault::NoCleanInterval);
         }
         Ok(TimerConfig { settings })
+    }
+
+    /// When a node's files are to be cleaned, counted from now: one for the node, not for each group.
+    pub fn cleaning(&self, now: u64) -> Interval
+        ensures { result ≡ record { length = self.now.settings.clean_interval; from = now } }
+    {
+        Interval::new(self.settings.clean_interval, now)
     }
 }

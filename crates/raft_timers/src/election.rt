@@ -5,8 +5,8 @@ ghost use Rattle.raft_timers.specs.Election.{IsDrawn, election_after, first_wait
 use crate::config::TimerConfig;
 use crate::draw::draw_timeout;
 use crate::view::GroupView;
-use rand_xoshiro::SplitMix64;
 use raft_values::ServerState;
+use rand_xoshiro::SplitMix64;
 
 /// How long a voter waits for a leader, and from when on (own).
 #[derive(Debug, PartialEq, Eq, Drop)]

@@ -41,7 +41,7 @@ pub fn elections_are_apart()
         → AsksElection (clock_of h) view now
         → AsksElection (after_calls calls (ticked view waiting now (clock_of h))) later then
         → moment (clock_of h) now + h.config.settings.election_min
-            ≤ moment (after_calls calls (ticked view waiting now (clock_of h))) then }
+        ≤ moment (after_calls calls (ticked view waiting now (clock_of h))) then }
 {}
 
 /// A heartbeat is asked for of a leader alone, and between two of them lies the interval.
@@ -51,7 +51,7 @@ pub fn heartbeats_are_apart()
         → AsksHeartbeat (clock_of h) view now
         → AsksHeartbeat (after_calls calls (ticked view waiting now (clock_of h))) later then
         → moment (clock_of h) now + h.config.settings.heartbeat_interval
-            ≤ moment (after_calls calls (ticked view waiting now (clock_of h))) then }
+        ≤ moment (after_calls calls (ticked view waiting now (clock_of h))) then }
 {}
 
 /// A peer is told lost only where its request has been seen to wait for its timeout, which is the

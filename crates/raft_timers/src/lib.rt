@@ -7,8 +7,10 @@ mod election;
 mod interval;
 mod laws;
 mod lead;
+mod majority;
 mod policy;
 mod request;
+mod rows;
 mod timers;
 mod view;
 mod wanted;
@@ -23,8 +25,16 @@ pub use laws::{
     want_of_a_quorum_is_told_in_time,
 };
 pub use lead::Lead;
+pub use majority::majority_heard;
 pub use policy::{is_snapshot_due, purge_place};
 pub use request::RequestTimer;
+pub use rows::{
+    faults_of_settings, logs_by_policy, majorities_that_are_heard, ticks_that_have_passed,
+    timeouts_of_requests, words_of_the_generator,
+};
 pub use timers::Timers;
 pub use view::GroupView;
 pub use wanted::Wanted;
+
+#[cfg(test)]
+mod tests;

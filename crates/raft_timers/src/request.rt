@@ -49,7 +49,10 @@ impl RequestTimer {
             self.waits_from = Some(now);
         } else if self.is_lost(is_waiting, now) {
             self.waits_from = Some(now);
-            self.timeout = self.timeout.saturating_mul(2).min(settings.request_timeout_max);
+            self.timeout = self
+                .timeout
+                .saturating_mul(2)
+                .min(settings.request_timeout_max);
         }
     }
 
