@@ -1,5 +1,5 @@
 -- When heartbeats are asked for.
-use Rattle.std.proofs.Common.{◌≡◌, ℕ, ◌+◌, ◌≤◌, ◌<◌, Bool, true, false, Option, Some, None, refl, arith}
+use Rattle.std.proofs.Common.{◌≡◌, ℕ, ◌+◌, ◌≤◌, Bool, true, false, Option, Some, None, refl, arith}
 use Rattle.std.specs.Prelude.{if◌then◌else◌}
 use Rattle.std.proofs.lemmas.Bool.{and_parts}
 use Rattle.raft_timers.specs.declared.config.TimerConfig.{TimerConfig}
@@ -9,7 +9,7 @@ use Rattle.raft_timers.specs.declared.lead.Lead.{Lead}
 use Rattle.raft_timers.specs.declared.view.GroupView.{GroupView}
 use Rattle.raft_timers.specs.Clock.{Clock}
 use Rattle.raft_timers.specs.Election.{leads}
-use Rattle.raft_timers.specs.Interval.{interval_after, is_interval_over}
+use Rattle.raft_timers.specs.Interval.{is_interval_over}
 use Rattle.raft_timers.specs.Lead.{is_heartbeat_due, kept_lead, lead_after}
 use Rattle.raft_timers.specs.History.{AsksHeartbeat, Call, Ticks, Answers, Peers, History, after_call, clock_of}
 use Rattle.raft_timers.specs.Timers.{moment, new_clock, ticked}

@@ -1,6 +1,5 @@
 -- What calls keep.
-use Rattle.std.proofs.Common.{◌≡◌, List, [], ◌∷◌, refl, ◌∙◌}
-use Rattle.raft_timers.specs.declared.config.TimerConfig.{TimerConfig}
+use Rattle.std.proofs.Common.{◌≡◌, List, [], ◌∷◌, refl}
 use Rattle.raft_timers.specs.Clock.{Clock}
 use Rattle.raft_timers.specs.History.{Call, Ticks, Answers, Peers, History, after_call, after_calls, clock_of}
 use Rattle.raft_timers.specs.Timers.{answered, new_clock, ticked, with_peers}

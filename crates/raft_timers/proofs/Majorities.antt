@@ -1,5 +1,5 @@
 -- Where a majority was heard of since a moment, one was since a moment that is told, and no earlier one.
-use Rattle.std.proofs.Common.{◌≡◌, ℕ, ◌+◌, ◌≤◌, ◌<◌, ◌/◌, suc, Bool, true, false, List, [], ◌∷◌, length, get_or, cond, Option, Some, None, refl, inl, inr, arith}
+use Rattle.std.proofs.Common.{◌≡◌, ℕ, ◌+◌, ◌≤◌, ◌<◌, ◌/◌, suc, true, false, List, [], ◌∷◌, length, get_or, cond, Option, Some, None, refl, inl, inr, arith}
 use Rattle.std.specs.Prelude.{◌⊎◌, count_by, IfSome, IsSomeAnd}
 use Rattle.std.proofs.lemmas.Bool.{leb-true, le-leb}
 use Rattle.std.proofs.lemmas.Bool.Decides.{leb_tells}

@@ -10,7 +10,7 @@ use Rattle.raft_timers.specs.declared.request.RequestTimer.{RequestTimer}
 use Rattle.raft_timers.specs.Clock.{Clock}
 use Rattle.raft_timers.specs.Interval.{have_passed}
 use Rattle.raft_timers.specs.Laws.{HasWaited}
-use Rattle.raft_timers.specs.Request.{answered_by, has_waited, is_among, is_lost, kept_request, lost_peers, new_request, request_after, requests_of, given_up, waiting_after}
+use Rattle.raft_timers.specs.Request.{has_waited, is_among, is_lost, kept_request, lost_peers, new_request, request_after, given_up, waiting_after}
 use Rattle.raft_timers.specs.History.{Call, Ticks, Answers, Peers, History, TellsLost, after_call, clock_of}
 use Rattle.raft_timers.specs.Timers.{moment, new_clock}
 use Rattle.raft_timers.proofs.Histories.{kept_by_calls}

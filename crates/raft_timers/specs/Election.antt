@@ -1,5 +1,5 @@
 -- When a voter stands for election.
-use Rattle.std.specs.Prelude.{ℕ, ◌≤◌, max, Bool, true, false, ◌&&◌, ◌||◌, if◌then◌else◌, Option, unwrap_or}
+use Rattle.std.specs.Prelude.{ℕ, ◌≤◌, max, Bool, true, false, ◌&&◌, if◌then◌else◌, unwrap_or}
 use Rattle.rand_xoshiro.specs.SplitMix64.{mix_u64, next_state}
 use Rattle.raft_values.specs.declared.server_state.ServerState.{ServerState}
 use Rattle.raft_values.specs.declared.server_state.ServerState.TheVariants.{Learner, Follower, Candidate, Leader, Shutdown}

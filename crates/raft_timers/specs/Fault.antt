@@ -1,5 +1,5 @@
 -- Why settings are refused: the first reason that holds.
-use Rattle.std.specs.Prelude.{ℕ, Bool, true, false, ◌==◌, nat_le, nat_lt, List, [], ◌∷◌, Option, Some, None}
+use Rattle.std.specs.Prelude.{Bool, true, false, ◌==◌, nat_le, nat_lt, List, [], ◌∷◌, Option, Some, None}
 use Rattle.raft_timers.specs.declared.config.TimerSettings.{TimerSettings}
 use Rattle.raft_timers.specs.declared.config.TimerFault.{TimerFault}
 use Rattle.raft_timers.specs.declared.config.TimerFault.TheVariants.{NoHeartbeatInterval, ElectionWithinHeartbeat, NoElectionRange, NoRequestTimeout, RequestLimitTooLow, NoSnapshotEntries, NoCleanInterval}

@@ -1,5 +1,5 @@
 -- A clock behind the calls of a history.
-use Rattle.std.specs.Prelude.{◌≡◌, ℕ, Bool, true, List, [], ◌∷◌, Contains}
+use Rattle.std.specs.Prelude.{◌≡◌, ℕ, true, List, [], ◌∷◌, Contains}
 use Rattle.raft_timers.specs.declared.config.TimerConfig.{TimerConfig}
 use Rattle.raft_timers.specs.declared.view.GroupView.{GroupView}
 use Rattle.raft_timers.specs.Clock.{Clock}

@@ -1,5 +1,5 @@
 -- What a leader owes: heartbeats, and a quorum.
-use Rattle.std.specs.Prelude.{ℕ, max, Bool, true, false, ◌&&◌, if◌then◌else◌, Option, Some, None, unwrap_or}
+use Rattle.std.specs.Prelude.{ℕ, max, Bool, false, ◌&&◌, if◌then◌else◌, Option, Some, None, unwrap_or}
 use Rattle.raft_timers.specs.declared.config.TimerSettings.{TimerSettings}
 use Rattle.raft_timers.specs.declared.lead.Lead.{Lead}
 use Rattle.raft_timers.specs.declared.view.GroupView.{GroupView}

@@ -1,10 +1,10 @@
 -- The wait was begun anew at the first one.
-use Rattle.std.proofs.Common.{◌≡◌, ℕ, ◌≤◌, ap, ◌∙◌, arith}
+use Rattle.std.proofs.Common.{ℕ, ap, ◌∙◌, arith}
 use Rattle.raft_timers.specs.declared.config.TimerConfig.{TimerConfig}
 use Rattle.raft_timers.specs.Clock.{Clock}
 use Rattle.raft_timers.specs.History.{after_calls, clock_of}
 use Rattle.raft_timers.specs.Timers.{moment, ticked}
-use Rattle.raft_timers.specs.History.{Call, Ticks}
+use Rattle.raft_timers.specs.History.{Ticks}
 use Rattle.raft_timers.proofs.Drawn.{IsDrawnClock, drawn_after, drawn_of}
 use Rattle.raft_timers.proofs.Histories.{config_of, kept_by_calls, same_config}
 use Rattle.raft_timers.proofs.Standing.{WaitsFrom, stands_late, waits_anew, waits_on}

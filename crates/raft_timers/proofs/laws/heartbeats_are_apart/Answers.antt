@@ -1,5 +1,5 @@
 -- The interval is counted from the first one.
-use Rattle.std.proofs.Common.{◌≡◌, ℕ, ◌≤◌, ap, ◌∙◌, arith}
+use Rattle.std.proofs.Common.{ℕ, ap, ◌∙◌, arith}
 use Rattle.raft_timers.specs.declared.config.TimerConfig.{TimerConfig}
 use Rattle.raft_timers.specs.Clock.{Clock}
 use Rattle.raft_timers.specs.History.{after_calls, clock_of}
