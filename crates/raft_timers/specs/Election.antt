@@ -24,7 +24,7 @@ leads Candidate = false
 leads Leader = true
 leads Shutdown = false
 
--- since when the node has heard nothing: of no leader, of no candidate that it voted for, and it stood for no election
+-- since when the node has heard nothing: of no leader, of no candidate that it voted for; nor stood
 abbrev pub quiet_since : ElectionTimer → GroupView → ℕ
 quiet_since e view = max e.from (unwrap_or view.renewed 0)
 

@@ -109,7 +109,7 @@ impl TimerConfig {
         Ok(TimerConfig { settings })
     }
 
-    /// When a node's files are to be cleaned, counted from now: one for the node, not for each group.
+    /// When a node's files are to be cleaned, counted from now: one for the node, not for a group.
     pub fn cleaning(&self, now: u64) -> Interval
         ensures { result ≡ record { length = self.now.settings.clean_interval; from = now } }
     {

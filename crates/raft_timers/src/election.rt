@@ -39,12 +39,13 @@ impl ElectionTimer {
         may_stand && self.timeout <= now.saturating_sub(since)
     }
 
-    /// Whether the node is to stand for election. If so, the next timeout is drawn, and counted from
-    /// this moment; while it leads, the wait begins anew.
+    /// Whether the node is to stand for election. If so, the next timeout is drawn, and counted
+    /// from this moment; while it leads, the wait begins anew.
     pub fn tick(&mut self, config: &TimerConfig, view: &GroupView, now: u64) -> bool
         ensures due { result ≡ is_election_due self.old view.now now }
         ensures after { self.new ≡ election_after config.now.settings view.now now self.old }
-        ensures within { IsDrawn config.now.settings self.old → IsDrawn config.now.settings self.new }
+        ensures within { IsDrawn config.now.settings self.old
+            → IsDrawn config.now.settings self.new }
     {
         let is_due = self.is_due(view, now);
         if is_due {

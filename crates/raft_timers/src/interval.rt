@@ -19,8 +19,8 @@ impl Interval {
         Interval { length, from: now }
     }
 
-    /// Whether it is due, and then it is counted anew from this moment. Calls are late, so it may be
-    /// due somewhat later; never earlier. A clock that goes back counts as one that stands.
+    /// Whether it is due, and then it is counted anew from this moment. Late calls make it late; it
+    /// is never early. A clock that goes back counts as one that stands.
     pub fn tick(&mut self, now: u64) -> bool
         ensures due { result ≡ is_interval_over self.old now }
         ensures after { self.new ≡ interval_after self.old now }

@@ -23,12 +23,13 @@ fn hears_majority(heard: &[Option<u64>], moment: u64) -> bool
     heard.len() / 2 < count
 }
 
-/// The latest moment at or after which more than half of the voters were heard of, for the view of a
-/// leader; none where no such half was. `heard` tells of each voter when it was heard of last, if it
-/// was: of the leader itself that is now.
+/// The latest moment at or after which more than half of the voters were heard of, for the view of
+/// a leader; none where no such half was. `heard` tells of each voter when it was heard of last, if
+/// it was: of the leader itself that is now.
 pub fn majority_heard(heard: &[Option<u64>]) -> Option<u64>
     ensures majority { IfSome result (λ m. hears_majority heard.now m ≡ true) }
-    ensures latest { (m : ℕ) → hears_majority heard.now m ≡ true → IsSomeAnd result (λ found. m ≤ found) }
+    ensures latest { (m : ℕ) → hears_majority heard.now m ≡ true
+        → IsSomeAnd result (λ found. m ≤ found) }
 {
     let mut latest = None;
     for at in heard {
@@ -42,7 +43,8 @@ fn later_majority(heard: &[Option<u64>], at: Option<u64>, latest: Option<u64>) -
     requires { IfSome latest (λ m. hears_majority heard.now m ≡ true) }
     ensures majority { IfSome result (λ m. hears_majority heard.now m ≡ true) }
     ensures kept { IfSome latest (λ m. IsSomeAnd result (λ found. m ≤ found)) }
-    ensures tried { IfSome at (λ m. hears_majority heard.now m ≡ true → IsSomeAnd result (λ found. m ≤ found)) }
+    ensures tried { IfSome at (λ m. hears_majority heard.now m ≡ true
+        → IsSomeAnd result (λ found. m ≤ found)) }
 {
     let Some(moment) = at else {
         return latest;

@@ -1,7 +1,8 @@
 //! When a request to a peer is given up.
 ghost use Rattle.std.specs.Prelude.{◌≡◌, IfOk};
-ghost use Rattle.raft_timers.specs.Request.{answered_by, is_lost, kept_request, lost_peers, new_request};
-ghost use Rattle.raft_timers.specs.Request.{request_after, requests_after, requests_answered, requests_of};
+ghost use Rattle.raft_timers.specs.Request.{answered_by, is_lost, kept_request, lost_peers};
+ghost use Rattle.raft_timers.specs.Request.{new_request, request_after, requests_after};
+ghost use Rattle.raft_timers.specs.Request.{requests_answered, requests_of};
 
 use crate::config::TimerSettings;
 use std::alloc::{AllocError, Global};

@@ -10,16 +10,17 @@ ghost use Rattle.raft_timers.specs.Majority.{hears_majority};
 ghost use Rattle.raft_timers.specs.Policy.{is_snapshot_due, purge_place};
 ghost use Rattle.raft_timers.specs.Rows.{log_at, losses, word_at};
 
-/// The first words of SplitMix64 from the state 1234567 on, as its authors' program prints them, and
-/// the timeouts that they pick.
+/// The first words of SplitMix64 from the state 1234567 on, as its authors' program prints them,
+/// and the timeouts that they pick.
 pub fn words_of_the_generator()
     ensures first { word_at 0 ≡ 6457827717110365317 }
     ensures second { word_at 1 ≡ 3203168211198807973 }
     ensures third { word_at 2 ≡ 9817491932198370423 }
     ensures fourth { word_at 3 ≡ 4593380528125082431 }
     ensures fifth { word_at 4 ≡ 16408922859458223821 }
-    ensures timeouts { timeout_of usual (word_at 0) ∷ timeout_of usual (word_at 1) ∷ timeout_of usual (word_at 2) ∷ []
-        ≡ 224 ∷ 336 ∷ 236 ∷ [] }
+    ensures first_timeout { timeout_of usual (word_at 0) ≡ 224 }
+    ensures second_timeout { timeout_of usual (word_at 1) ≡ 336 }
+    ensures third_timeout { timeout_of usual (word_at 2) ≡ 236 }
     ensures least { timeout_of usual 0 ≡ 200 }
     ensures most { timeout_of usual 200 ≡ 400 }
     ensures around { timeout_of usual 201 ≡ 200 }
@@ -28,15 +29,21 @@ pub fn words_of_the_generator()
 /// What is wrong with settings that differ in one number from the usual ones.
 pub fn faults_of_settings()
     ensures usual { fault_of usual ≡ None }
-    ensures heartbeat { fault_of (record usual { heartbeat_interval = 0 }) ≡ Some fault.NoHeartbeatInterval }
-    ensures silence { fault_of (record usual { heartbeat_interval = 200 }) ≡ Some fault.ElectionWithinHeartbeat }
+    ensures heartbeat { fault_of (record usual { heartbeat_interval = 0 })
+        ≡ Some fault.NoHeartbeatInterval }
+    ensures silence { fault_of (record usual { heartbeat_interval = 200 })
+        ≡ Some fault.ElectionWithinHeartbeat }
     ensures range { fault_of (record usual { election_max = 200 }) ≡ Some fault.NoElectionRange }
-    ensures request { fault_of (record usual { request_timeout = 0 }) ≡ Some fault.NoRequestTimeout }
-    ensures limit { fault_of (record usual { request_timeout_max = 99 }) ≡ Some fault.RequestLimitTooLow }
-    ensures entries { fault_of (record usual { snapshot_entries = 0 }) ≡ Some fault.NoSnapshotEntries }
+    ensures request { fault_of (record usual { request_timeout = 0 })
+        ≡ Some fault.NoRequestTimeout }
+    ensures limit { fault_of (record usual { request_timeout_max = 99 })
+        ≡ Some fault.RequestLimitTooLow }
+    ensures entries { fault_of (record usual { snapshot_entries = 0 })
+        ≡ Some fault.NoSnapshotEntries }
     ensures clean { fault_of (record usual { clean_interval = 0 }) ≡ Some fault.NoCleanInterval }
-    ensures fits { fault_of (record usual { heartbeat_interval = 199; election_max = 201; request_timeout_max = 100; keep_entries = 0 })
-        ≡ None }
+    ensures fits { fault_of (record usual { heartbeat_interval = 199; election_max = 201 }) ≡ None }
+    ensures nothing_kept { fault_of (record usual { keep_entries = 0 }) ≡ None }
+    ensures one_timeout { fault_of (record usual { request_timeout_max = 100 }) ≡ None }
 {}
 
 /// When 50 ticks have passed since moment 100; and at the end of the clock.

@@ -1,5 +1,5 @@
-//! Three groups over a thousand ticks: what is asked for, and when, worked by hand from the settings
-//! and the generator's first words.
+//! Three groups over a thousand ticks: what is asked for, and when, worked by hand from the
+//! settings and the generator's first words.
 use super::*;
 use raft_values::ServerState;
 use std::alloc::{AllocError, Global};

@@ -18,7 +18,8 @@ use rand_xoshiro::SplitMix64;
 use std::alloc::{AllocError, Global};
 use std::marker::Model;
 
-/// The clock of one group at one node (own). Its size is fixed but for one `RequestTimer` for each peer.
+/// The clock of one group at one node (own). Its size is fixed but for one `RequestTimer` for each
+/// peer.
 #[derive(Drop)]
 pub struct Timers {
     alloc: Global,
@@ -35,14 +36,20 @@ impl Model for Timers {
 
     ghost Value = { Clock };
 
-    ghost view = { λ t. record { config = t.config; now = t.now; election = t.election; lead = t.lead; requests = t.requests.items } };
+    ghost view = { λ t. record {
+      config = t.config;
+      now = t.now;
+      election = t.election;
+      lead = t.lead;
+      requests = t.requests.items;
+    } };
 
     ghost invariant = { λ t. IsDrawn t.config.settings t.election };
 }
 
 impl Timers {
-    /// The clock starts: the node leads nobody yet, and has heard nothing. The peers are the group's
-    /// other members. Give each node another seed, so that their election timeouts differ.
+    /// The clock starts: the node leads nobody yet, and has heard nothing. The peers are the
+    /// group's other members. Give each node another seed, so that their election timeouts differ.
     pub fn new(
         alloc: Global,
         config: TimerConfig,
@@ -74,7 +81,7 @@ impl Timers {
         Ok(())
     }
 
-    /// A frame of the peer was taken in this group: its next request waits from its first timeout on.
+    /// A frame of the peer was taken in this group: its requests have the first timeout again.
     pub fn answered(&mut self, peer: u64)
         ensures { self.new ≡ answered peer self.old }
     {
@@ -82,19 +89,23 @@ impl Timers {
         hear_answer(&settings, self.requests.as_mut_slice(), peer);
     }
 
-    /// What is due at this moment, in ticks; `waiting` are the peers whose answer the node waits for.
-    /// A moment before the last one counts as that one. It asks again for a snapshot and a purge
-    /// until the view shows them.
+    /// What is due at this moment, in ticks; `waiting` are the peers whose answer the node waits
+    /// for. A moment before the last one counts as that one. It asks again for a snapshot and a
+    /// purge until the view shows them.
     pub fn tick(
         &mut self,
         now: u64,
         view: &GroupView,
         waiting: &[u64],
     ) -> Result<Wanted, AllocError>
-        ensures elect { IfOk result (λ w. w.elect ≡ is_election_due self.old.election view.now (moment self.old now)) }
-        ensures heartbeat { IfOk result (λ w. w.heartbeat ≡ is_heartbeat_due self.old.lead view.now (moment self.old now)) }
-        ensures lost { IfOk result (λ w. w.lost.items ≡ lost_peers waiting.now (moment self.old now) self.old.requests) }
-        ensures snapshot { IfOk result (λ w. w.snapshot ≡ is_snapshot_due self.old.config.settings view.now) }
+        ensures elect { IfOk result (λ w. w.elect
+            ≡ is_election_due self.old.election view.now (moment self.old now)) }
+        ensures heartbeat { IfOk result (λ w. w.heartbeat
+            ≡ is_heartbeat_due self.old.lead view.now (moment self.old now)) }
+        ensures lost { IfOk result (λ w. w.lost.items
+            ≡ lost_peers waiting.now (moment self.old now) self.old.requests) }
+        ensures snapshot { IfOk result (λ w. w.snapshot
+            ≡ is_snapshot_due self.old.config.settings view.now) }
         ensures purge { IfOk result (λ w. w.purge ≡ purge_place self.old.config.settings view.now) }
         ensures no_quorum { IfOk result (λ w. w.no_quorum
             ≡ lacks_quorum self.old.config.settings self.old.lead view.now (moment self.old now)) }
