@@ -15,23 +15,28 @@ fn add(node: &mut CountersNode, group: u64) -> Answered {
     node.add_group(group)
 }
 
-fn elect(node: &mut CountersNode, group: u64, now: u64) -> Answered {
+/// The node stands for election.
+pub fn elect(node: &mut CountersNode, group: u64, now: u64) -> Answered {
     node.elect(group, now)
 }
 
-fn heartbeat(node: &mut CountersNode, group: u64, now: u64) -> Answered {
+/// The node tells its peers that it leads.
+pub fn heartbeat(node: &mut CountersNode, group: u64, now: u64) -> Answered {
     node.heartbeat(group, now)
 }
 
-fn snapshot(node: &mut CountersNode, group: u64, now: u64) -> Answered {
+/// A snapshot of what is applied is stored.
+pub fn snapshot(node: &mut CountersNode, group: u64, now: u64) -> Answered {
     node.trigger_snapshot(group, now)
 }
 
-fn lost(node: &mut CountersNode, group: u64, peer: u64, now: u64) -> Answered {
+/// The peer's answer won't come.
+pub fn lost(node: &mut CountersNode, group: u64, peer: u64, now: u64) -> Answered {
     node.lost(group, peer, now)
 }
 
-fn purge(node: &mut CountersNode, group: u64, place: u64, now: u64) -> Answered {
+/// The log goes up to the place.
+pub fn purge(node: &mut CountersNode, group: u64, place: u64, now: u64) -> Answered {
     node.trigger_purge_log(group, place, now)
 }
 

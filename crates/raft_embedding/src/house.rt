@@ -75,6 +75,16 @@ impl House {
         }
     }
 
+    /// What the node answered to all that its clock asked for.
+    pub fn ticked(&mut self, id: u64, answers: &[Answered], text: &mut String) -> Told {
+        write!(text, "{} due", answers.len())?;
+        for answered in answers {
+            text.push_str("; ")?;
+            self.answered(id, answered, text)?;
+        }
+        Ok(())
+    }
+
     /// What an opening of a node answered.
     pub fn opened(
         &mut self,
@@ -115,6 +125,9 @@ impl House {
             return Ok(false);
         };
         let fed = feed(node, peer, piece, now);
+        if let Some(home) = self.home(id) {
+            home.hear(peer, fed.outcomes.as_slice(), now);
+        }
         self.fed(id, &fed, text)
     }
 

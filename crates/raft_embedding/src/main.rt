@@ -11,6 +11,7 @@
 //!   `1 learner 7 3 c 41 5`, `1 snapshot 7 5`, `1 purge 7 3 5`: its calls;
 //! - `1 takes 2 5`: what node 2 sent it comes as a stream, in pieces; `1 takes 2 5 for 3`: what node 2
 //!   sent node 3; `1 takes 2 5 bytes "\xff"`: these bytes; `1 loses 2`: what it sent doesn't come;
+//! - `1 clock 7 5`, `1 ticks 9`: a clock of the group starts, and what it asks for at that moment is called;
 //! - `1 resets 2`, `1 fails`: the peer's stream begins anew; the node stops;
 //! - `1 sees 7`, `1 knows 7 2`, `1 gets 7 a`, `1 is`: what it tells of the group, of a member of it, of
 //!   the group's machine, of itself; `1 has`, `1 may 7`: which groups it has, and from which moment on
@@ -18,6 +19,7 @@
 #![tactic(auto)]
 
 mod calls;
+mod clock;
 mod counters;
 mod house;
 mod node;

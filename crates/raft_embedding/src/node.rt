@@ -1,5 +1,6 @@
 //! A node with counters, on files of its own.
 
+use crate::clock::Clock;
 use crate::counters::Counters;
 use raft_log_engine::{EngineFault, LogFiles, MemoryLog, NotClosed, NotOpened as LogNotOpened};
 use raft_log_files::{Config, FileBytes};
@@ -37,6 +38,8 @@ pub struct Home {
     /// The bytes of its files, as they were noted.
     pub before: Vec<FileBytes>,
     coming: BTreeMap<u64, Vec<u8>>,
+    /// The clock of one of its groups, once it was started.
+    pub clock: Option<Clock>,
 }
 
 // No files yet.
@@ -75,6 +78,7 @@ impl Home {
             files: None,
             before: Vec::new(alloc),
             coming: BTreeMap::new(alloc),
+            clock: None,
         }
     }
 
@@ -139,6 +143,27 @@ impl Home {
     pub fn crash(&mut self) -> Option<&'static str> {
         self.files = Some(crash_node(self.node.take()?));
         Some("crashed")
+    }
+
+    // ---- the clock
+
+    /// What is due of the clock's group is asked of the node: what it answers; nothing where no clock
+    /// runs, or the node isn't up.
+    pub fn tick(&mut self, now: u64) -> Option<Result<Vec<Answered>, AllocError>> {
+        let node = self.node.as_mut()?;
+        Some(self.clock.as_mut()?.tick(node, now))
+    }
+
+    /// The clock hears of frames of the peer in its group.
+    pub fn hear(&mut self, peer: u64, outcomes: &[Outcome], now: u64) {
+        let Some(clock) = &mut self.clock else {
+            return;
+        };
+        for outcome in outcomes {
+            if outcome.group == clock.group {
+                clock.hear(peer, now);
+            }
+        }
     }
 
     // ---- streams

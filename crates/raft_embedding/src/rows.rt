@@ -1,10 +1,11 @@
 //! What becomes of a row.
 
 use crate::calls::{call, fail, reset};
+use crate::clock::Clock;
 use crate::house::{House, Told, refused};
 use crate::told::look;
 use raft_rows::{Answer, Rows, bytes, number};
-use std::alloc::Global;
+use std::alloc::{AllocError, Global};
 
 impl House {
     // A call of the node.
@@ -16,6 +17,32 @@ impl House {
     fn open(&mut self, id: u64, text: &mut String) -> Option<Told> {
         let opened = self.home(id)?.open();
         Some(self.opened(id, &opened, text))
+    }
+
+    // The clock of a group with three voters starts at the node.
+    fn start(
+        &mut self,
+        alloc: Global,
+        id: u64,
+        group: u64,
+        now: u64,
+        text: &mut String,
+    ) -> Option<Told> {
+        let peers = match id {
+            1 => [2, 3],
+            2 => [1, 3],
+            _ => [1, 2],
+        };
+        self.home(id)?.clock = Some(Clock::start(alloc, id, group, peers, now)?);
+        Some(text.push_str("started"))
+    }
+
+    // What is due at the moment is asked of the node.
+    fn tick(&mut self, id: u64, now: u64, text: &mut String) -> Option<Told> {
+        Some(match self.home(id)?.tick(now)? {
+            Ok(answers) => self.ticked(id, answers.as_slice(), text),
+            Err(_) => Err(AllocError),
+        })
     }
 
     // The peer's stream begins anew.
@@ -76,6 +103,8 @@ impl House {
             ["takes", ref words @ ..] => self.take(alloc, id, words, text),
             ["loses", peer] => self.lose(id, number(peer), text),
             ["resets", peer] => self.reset(id, number(peer), text),
+            ["clock", group, now] => self.start(alloc, id, number(group), number(now), text),
+            ["ticks", now] => self.tick(id, number(now), text),
             ["notes"] | ["tears" | "fuses", _] => self.touch(id, words, text),
             ["fails"] => Some(refused(&fail(self.node(id)?), text)),
             ["is" | "has" | "may" | "sees" | "knows" | "gets", ..] => {

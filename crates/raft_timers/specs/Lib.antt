@@ -1,0 +1,14 @@
+pub mod Clock
+pub mod Config
+pub mod Draw
+pub mod Election
+pub mod Fault
+pub mod History
+pub mod Interval
+pub mod Laws
+pub mod Lead
+pub mod Majority
+pub mod Policy
+pub mod Request
+pub mod Rows
+pub mod Timers
