@@ -1,17 +1,15 @@
 -- Commands that are read are within their limits, whatever numbers the bytes are.
-use Rattle.std.proofs.Common.{◌≡◌, ℕ, zero, suc, ◌≤◌, ◌==◌, Bool, true, false, cond, List, [], ◌∷◌, length, take, drop, Option, Some, None, Result, Ok, Err, refl, sym, ap, subst, ◌∙◌, arith, length-take-le}
+use Rattle.std.proofs.Common.{◌≡◌, ℕ, zero, suc, ◌≤◌, ◌==◌, Bool, true, false, cond, List, [], ◌∷◌, length, take, drop, Ok, Err, refl, sym, ap, subst, ◌∙◌, arith, length-take-le}
 use Rattle.std.specs.Prelude.{nat_lt}
 use Rattle.std.specs.Int.{w32}
 use Rattle.std.proofs.lemmas.Bool.Decides.{nat_tests}
-use Rattle.raft_bytes.proofs.Bytes.{bind_ok}
-use Rattle.raft_wire.specs.declared.error.FrameFault.{FrameFault}
+use Rattle.raft_bytes.proofs.Bytes.{bind_ok, ok_is}
 use Rattle.raft_wire.specs.declared.error.FrameFault.TheVariants as fault
 use Rattle.raft_wire.specs.Reader.{◌>>=◌, all_of, both, count_at, number_at, piece_at, text_at}
 use Rattle.raft_kv.specs.declared.command.KvCommand.{KvCommand}
 use Rattle.raft_kv.specs.Fields.{IsFilled, filled_at, has_bytes, key_at, value_at}
 use Rattle.raft_kv.specs.Command.{FitsCommand, command_at, drop_of, get_of, put_of}
 use Rattle.raft_kv.proofs.Reading.{some_bytes}
-
 
 piece_length : (n : ℕ) (bytes : List ℕ) (x : List ℕ × List ℕ) → piece_at n bytes ≡ Ok x → length x.0 ≡ n
 unfolding piece_at
@@ -54,26 +52,34 @@ filled_fits limit bytes x e =
         subst (λ (y : List ℕ × List ℕ). IsFilled limit y.0) same (record { some = some_bytes a.0 some; few = few })
     by a false none few e = absurd cc
 
+-- a command that was found is that of the pair
+found : (a x : KvCommand × List ℕ) → a ≡ x → FitsCommand a.0 → FitsCommand x.0
+found a x same fits = subst (λ (y : KvCommand × List ℕ). FitsCommand y.0) same fits
+
+fields_fit : (bytes : List ℕ) (x : (List ℕ × List ℕ) × List ℕ) → both key_at value_at bytes ≡ Ok x → FitsCommand (put_of x.0)
+fields_fit bytes x e =
+    let key = bind_ok (key_at bytes) (λ k. (value_at k.1) >>= (λ v. Ok ((k.0, v.0), v.1))) x e in
+    let value = bind_ok (value_at key.0.1) (λ v. Ok ((key.0.0, v.0), v.1)) x key.2 in
+    by key.0.0 value.0.0 value.0.1 (filled_fits 255 bytes key.0 key.1) (filled_fits 199 key.0.1 value.0 value.1) value.2
+  where
+    by : (key value rest : List ℕ) → IsFilled 255 key → IsFilled 199 value → Ok ((key, value), rest) ≡ Ok x → FitsCommand (put_of x.0)
+    by key value rest fits_key fits_value e =
+        let same : ((key, value), rest) ≡ x = cc in
+        subst (λ (y : (List ℕ × List ℕ) × List ℕ). FitsCommand (put_of y.0)) same (fits_key, fits_value)
+
 command_fits : (bytes : List ℕ) (x : KvCommand × List ℕ) → command_at bytes ≡ Ok x → FitsCommand x.0
 unfolding command_at
 command_fits [] x e = absurd cc
 command_fits (zero ∷ bytes) x e = absurd cc
 command_fits (suc zero ∷ bytes) x e =
     let a = bind_ok (both key_at value_at bytes) (λ a. Ok (put_of a.0, a.1)) x e in
-    let key = bind_ok (key_at bytes) (λ k. (value_at k.1) >>= (λ v. Ok ((k.0, v.0), v.1))) a.0 a.1 in
-    let value = bind_ok (value_at key.0.1) (λ v. Ok ((key.0.0, v.0), v.1)) a.0 key.2 in
-    let pair : ((key.0.0, value.0.0), value.0.1) ≡ a.0 = cc in
-    let same : (put_of a.0.0, a.0.1) ≡ x = cc in
-    let fits : FitsCommand (put_of (key.0.0, value.0.0)) = (filled_fits 255 bytes key.0 key.1, filled_fits 199 key.0.1 value.0 value.1) in
-    subst (λ (y : KvCommand × List ℕ). FitsCommand y.0) same (subst (λ (y : (List ℕ × List ℕ) × List ℕ). FitsCommand (put_of y.0)) pair fits)
+    found (put_of a.0.0, a.0.1) x (ok_is (put_of a.0.0, a.0.1) x a.2) (fields_fit bytes a.0 a.1)
 command_fits (suc (suc zero) ∷ bytes) x e =
     let a = bind_ok (key_at bytes) (λ a. Ok (get_of a.0, a.1)) x e in
-    let same : (get_of a.0.0, a.0.1) ≡ x = cc in
-    subst (λ (y : KvCommand × List ℕ). FitsCommand y.0) same (filled_fits 255 bytes a.0 a.1)
+    found (get_of a.0.0, a.0.1) x (ok_is (get_of a.0.0, a.0.1) x a.2) (filled_fits 255 bytes a.0 a.1)
 command_fits (suc (suc (suc zero)) ∷ bytes) x e =
     let a = bind_ok (key_at bytes) (λ a. Ok (drop_of a.0, a.1)) x e in
-    let same : (drop_of a.0.0, a.0.1) ≡ x = cc in
-    subst (λ (y : KvCommand × List ℕ). FitsCommand y.0) same (filled_fits 255 bytes a.0 a.1)
+    found (drop_of a.0.0, a.0.1) x (ok_is (drop_of a.0.0, a.0.1) x a.2) (filled_fits 255 bytes a.0 a.1)
 command_fits (suc (suc (suc (suc b))) ∷ bytes) x e = absurd cc
 
 pub read_fits : (bytes : List ℕ) (command : KvCommand) → all_of command_at bytes ≡ Ok command → FitsCommand command

@@ -1,5 +1,5 @@
 -- Values on lists of few entries, and behind puts of 4,096 keys.
-use Rattle.std.proofs.Common.{◌≡◌, ℕ, zero, suc, ◌+◌, ◌<◌, ◌≤◌, Bool, true, false, cond, not, List, [], ◌∷◌, ◌++◌, length, take, Option, Some, None, refl, sym, ap, subst, ◌∙◌, arith, length-append, take_at}
+use Rattle.std.proofs.Common.{◌≡◌, ℕ, zero, suc, ◌+◌, ◌<◌, ◌≤◌, Bool, true, false, cond, not, List, [], ◌∷◌, length, take, Option, Some, None, refl, sym, ap, ◌∙◌, arith, length-append, take_at}
 use Rattle.std.specs.Prelude.{bytes_eq, codes, filter_map, is_some, option_and_then, nat_le, slice_get, ◌&&◌}
 use Rattle.std.specs.List.{cons_option, last_or, range_with_len}
 use Rattle.std.specs.FinMap as finite

@@ -1,10 +1,10 @@
 -- What is told of keys.
-use Rattle.std.proofs.Common.{◌≡◌, ℕ, List, Option, Some, sym, ap, subst, ◌∙◌}
+use Rattle.std.proofs.Common.{◌≡◌, ℕ, List, Some, sym, ap, subst, ◌∙◌}
 use Rattle.std.specs.Prelude.{option_and_then, slice_get}
 use Rattle.std.specs.Result.{result_ok}
 use Rattle.raft_state.specs.declared.entry.EntryPayload.TheVariants.{Normal}
 use Rattle.raft_group_step.specs.GroupEvent.{GroupCall}
-use Rattle.raft_group_step.specs.Values.{Entry, EntryPayload}
+use Rattle.raft_group_step.specs.Values.{Entry}
 use Rattle.raft_laws.specs.OneList.{AreNodeIds}
 use Rattle.raft_laws.specs.Settled.{group_list}
 use Rattle.raft_machines.specs.declared.telling.Told.{Told}

@@ -25,7 +25,8 @@ put_green = 1 ∷ (behind 5 (codes "apple") ++ behind 5 (codes "green"))
 abbrev pub get_b : List ℕ
 get_b = 2 ∷ behind 1 (codes "b")
 
--- a get before any put; puts of two keys, one of them put again; a get; a drop, and gets behind it; a put; and bytes that are no command
+-- a get before any put; puts of two keys, one of them put again; a get; a drop, and gets behind it;
+-- a put; and bytes that are no command
 abbrev pub two_keys : List Entry
 two_keys =
     entry_at 0 (Normal get_apple) ∷ entry_at 1 (Normal put_apple) ∷ entry_at 2 (Normal put_b)

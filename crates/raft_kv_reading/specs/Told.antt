@@ -25,18 +25,21 @@ pub record IsTold (h : ℕ) (history : List Recorded) (told : Told) : Type 0 whe
   pub stands : slice_get history number ≡ Some event
   pub has : Contains (said_by h event.event event.outcome).told told
 
--- each told answer tells the value that its command's key has before the told place of the group's list
+-- each told answer tells the value that its command's key has before the told place of the group's
+-- list
 abbrev pub ToldAnswersTellValues : Type 0
 ToldAnswersTellValues =
     (ids : List ℕ) → AreNodeIds ids → (h : ℕ) (history : List Recorded) (end : Replicas)
     → ReplaysFor kv h (new_replicas kv ids) history end
-    → (told : Told) → IsTold h history told → TellsValue (group_list end.world) told.place told.answer
+    → (told : Told) → IsTold h history told
+    → TellsValue (group_list end.world) told.place told.answer
 
 -- whoever came to the group with this token asked for this command
 abbrev pub IsTokenOf : ℕ → List Recorded → ℕ → KvCommand → Type 0
 IsTokenOf h history token command =
-    (number node now : ℕ) (event : Recorded) (call : GroupCall) → slice_get history number ≡ Some event
-    → event.event ≡ Ask node h call now → token_of_call call ≡ token ∷ []
+    (number node now : ℕ) (event : Recorded) (call : GroupCall)
+    → slice_get history number ≡ Some event → event.event ≡ Ask node h call now
+    → token_of_call call ≡ token ∷ []
     → call ≡ Propose (spelled_command command) token
 
 -- a client that gave its token to one command, and is told it, is told the place of this command

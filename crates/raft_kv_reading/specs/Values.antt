@@ -1,8 +1,11 @@
--- The value of a key before a place of a group's list: what the last put or drop of the key before it left.
-use Rattle.std.specs.Prelude.{ℕ, List, [], ◌∷◌, Bool, Option, Some, None, bytes_eq, slice_get, option_and_then, filter_map, if◌then◌else◌}
+-- The value of a key before a place of a group's list: what the last put or drop of the key before
+-- it left.
+use Rattle.std.specs.Prelude.{ℕ, Bool, List, [], ◌∷◌, bytes_eq, filter_map, slice_get}
+use Rattle.std.specs.Prelude.{Option, Some, None, option_and_then, if◌then◌else◌}
 use Rattle.std.specs.List.{last_or, range_with_len}
 use Rattle.std.specs.Result.{result_ok}
-use Rattle.raft_state.specs.declared.entry.EntryPayload.TheVariants.{Blank, Normal, Membership as Members}
+use Rattle.raft_state.specs.declared.entry.EntryPayload.TheVariants.{Blank, Normal}
+use Rattle.raft_state.specs.declared.entry.EntryPayload.TheVariants.{Membership as Members}
 use Rattle.raft_group_step.specs.Values.{Entry, EntryPayload}
 use Rattle.raft_machines.specs.Fold.{answer_at}
 use Rattle.raft_wire.specs.Reader.{all_of}

@@ -10,8 +10,8 @@ ghost use Rattle.raft_kv_reading.specs.Answers.{StaysBetween, TellsValue};
 ghost use Rattle.raft_kv_reading.specs.Values.{Change, Key, change_on, is_refused, value_before};
 ghost use Rattle.raft_kv_reading.specs.Values.{value_left};
 
-/// The machine behind a front of any list spells a map within its limits, and each key has there the
-/// value that the last put or drop of it left.
+/// The machine behind a front of any list spells a map within its limits, and each key has there
+/// the value that the last put or drop of it left.
 pub fn folds_hold_values()
     ensures values { (list : List Entry) (place : ℕ) (key : Key)
         → finite.get (map_in (fold_of kv (take place list))) key ≡ value_before list place key }
@@ -43,8 +43,8 @@ pub fn values_are_the_last_changes()
         → value_before list place key ≡ value_left (Some change) }
 {}
 
-/// A put is refused just where 4,096 keys have a value and its own has none: never behind fewer than
-/// 4,096 entries.
+/// A put is refused just where 4,096 keys have a value and its own has none: never behind fewer
+/// than 4,096 entries.
 pub fn full_maps_refuse_puts()
     ensures full { (list : List Entry) (place : ℕ) → (keys : List Key)
         × AreKeysBefore list place keys × IsRefusedByFullMap list place keys }

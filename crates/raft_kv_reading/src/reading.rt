@@ -31,7 +31,8 @@ pub fn value_of_told_get(told: &Told) -> Option<&[u8]>
     value_in(told.answer.as_slice())
 }
 
-/// Whether a told put was refused, since the map was full and its key new: the answer is the byte 2.
+/// Whether a told put was refused, since the map was full and its key new: the answer is the
+/// byte 2.
 pub fn was_put_refused(told: &Told) -> bool
     ensures { (list : List Entry) → told.now.answer ≡ answer_at kv list told.now.place
         → result ≡ is_refused list told.now.place }
@@ -39,8 +40,8 @@ pub fn was_put_refused(told: &Told) -> bool
     matches!(told.answer.as_slice(), [2])
 }
 
-/// A key's value in a machine that a node lends, itself lent. Where the machine is the fold of a front
-/// of a list, that is what the last put or drop of the key in this front left.
+/// A key's value in a machine that a node lends, itself lent. Where the machine is the fold of a
+/// front of a list, that is what the last put or drop of the key in this front left.
 pub fn value_in_machine<'a>(machine: &'a KvMachine, key: &[u8]) -> Option<&'a [u8]>
     ensures { (list : List Entry) (place : ℕ) → state_of machine.now ≡ fold_of kv (take place list)
         → option_map (λ v. v.now) result ≡ value_before list place key.now }
