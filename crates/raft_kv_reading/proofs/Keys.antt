@@ -1,6 +1,6 @@
 -- The keys that have a value before a place, and the puts that are refused there.
 use Rattle.std.proofs.Common.{◌≡◌, ℕ, ◌<◌, ◌≤◌, Bool, true, false, not, List, [], ◌∷◌, length, map, Option, Some, None, refl, sym, ap, ◌∙◌, arith}
-use Rattle.std.specs.Prelude.{◌&&◌, ◌||◌, T, bytes_eq, is_none, is_some, nat_le}
+use Rattle.std.specs.Prelude.{◌&&◌, ◌||◌, T, bytes_eq, is_some, nat_le}
 use Rattle.std.specs.declared.cmp.Ordering.{Ordering}
 use Rattle.std.specs.declared.cmp.Ordering.TheVariants.{Less, Equal, Greater}
 use Rattle.std.specs.FinMap as finite
@@ -15,7 +15,7 @@ use Rattle.raft_kv.specs.declared.command.KvCommand.{KvCommand}
 use Rattle.raft_kv.specs.declared.command.KvCommand.TheVariants.{Put, Get, Drop}
 use Rattle.raft_kv.specs.Map.{Map, Pair, in_order}
 use Rattle.raft_kv.specs.Machine.{is_full_for}
-use Rattle.raft_kv_reading.specs.Values.{Key, Value, command_on, is_refused, value_before}
+use Rattle.raft_kv_reading.specs.Values.{Key, Value, command_on, is_refused}
 use Rattle.raft_kv_reading.specs.Answers.{AreKeysBefore, IsRefusedByFullMap}
 use Rattle.raft_kv_reading.proofs.Fronts.{all_spelled, answer_by, answer_here, front_map, front_state}
 use Rattle.raft_kv_reading.proofs.Changes.{never_two, value_is}
@@ -55,10 +55,6 @@ by_bytes key (other ∷ keys) =
     ap (λ (b : Bool). b || list_any (eq_by_cmp in_order key) keys) (is_eq-slice_cmp key other)
     ∙ ap (λ (b : Bool). bytes_eq key other || b) (by_bytes key keys)
 
-none_is : {A : Type 0} (o : Option A) → not (is_some o) ≡ is_none o
-none_is None = refl
-none_is (Some x) = refl
-
 -- ---- of a front
 
 module _ (list : List Entry) (place : ℕ) where
@@ -81,7 +77,6 @@ module _ (list : List Entry) (place : ℕ) where
       refused_by_map list place key value e
       ∙ ap (λ (n : ℕ). nat_le 4096 n && not (is_some (finite.get here key))) size
       ∙ ap (λ (v : Option Value). nat_le 4096 (length keys_here) && not (is_some v)) (value_is list key place)
-      ∙ ap (λ (b : Bool). nat_le 4096 (length keys_here) && b) (none_is (value_before list place key))
 
   -- ---- few entries refuse no put
 

@@ -23,8 +23,7 @@ use Rattle.raft_kv_reading.specs.Values.{Change, Gives, Key, Value, change_by, c
 use Rattle.raft_kv_reading.proofs.Changes.{changed, value_is, value_next}
 use Rattle.raft_kv_reading.proofs.Fronts.{front_map}
 use Rattle.raft_kv_reading.proofs.Keys.{few_take_all}
-use Rattle.raft_kv_reading.proofs.Telling.{answers_tell, is_change, refused_by_map}
-use Rattle.raft_kv_reading.proofs.ToldAnswers.{spelled_stands}
+use Rattle.raft_kv_reading.proofs.Telling.{answers_tell, is_change, refused_by_map, spelled_stands}
 
 -- ---- lists of few entries
 

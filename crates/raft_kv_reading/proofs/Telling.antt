@@ -1,18 +1,23 @@
 -- What answers tell of keys, and which change is the last one.
 use Rattle.std.proofs.Common.{◌≡◌, ℕ, zero, suc, ◌+◌, ◌<◌, Bool, true, false, cond, List, [], ◌∷◌, take, Option, Some, None, refl, sym, ap, ◌∙◌, arith}
-use Rattle.std.specs.Prelude.{bytes_eq, nat_lt, option_and_then}
+use Rattle.std.specs.Prelude.{bytes_eq, nat_lt, option_and_then, slice_get}
+use Rattle.std.specs.Result.{result_ok}
 use Rattle.std.specs.FinMap as finite
 use Rattle.std.proofs.lemmas.Bool.Decides.{nat_tests}
 use Rattle.std.proofs.lemmas.Map.Text.{is_eq-slice_cmp}
+use Rattle.raft_state.specs.declared.entry.EntryPayload.TheVariants.{Normal}
 use Rattle.raft_group_step.specs.Values.{Entry}
 use Rattle.raft_machines.specs.Fold.{answer_at, fold_of}
+use Rattle.raft_wire.proofs.Whole.{whole_again}
 use Rattle.raft_kv.specs.declared.command.KvCommand.{KvCommand}
 use Rattle.raft_kv.specs.declared.command.KvCommand.TheVariants.{Put, Get, Drop}
+use Rattle.raft_kv.specs.Command.{FitsCommand, command_at, spelled_command}
 use Rattle.raft_kv.specs.Machine.{answer_of, is_full_for, kv, state_of}
 use Rattle.raft_kv.specs.Map.{Map, IsWithin}
+use Rattle.raft_kv.proofs.Reading.{command_reads}
 use Rattle.raft_kv.proofs.Maps.{same_key}
 use Rattle.raft_kv.proofs.WithinMaps.{itself, one_map, restored_again}
-use Rattle.raft_kv_reading.specs.Values.{Change, Gives, Takes, Key, Value, change_by, change_on, command_on, is_refused, value_before, value_left}
+use Rattle.raft_kv_reading.specs.Values.{Change, Gives, Takes, Key, Value, change_by, change_on, command_in, command_on, is_refused, value_before, value_left}
 use Rattle.raft_kv_reading.specs.Answers.{IsChange, StaysBetween, TellsValue, value_in}
 use Rattle.raft_kv_reading.proofs.Fronts.{all_spelled, answer_by, answer_here, front_map, front_state}
 use Rattle.raft_kv_reading.proofs.Changes.{change_is, changed, never_two, refused_put, value_is, value_next}
@@ -50,6 +55,15 @@ module _ (list : List Entry) (place : ℕ) where
         ∙ ap (λ (answer : List ℕ). cond (is_refused list place) (2 ∷ []) answer) (value_told key);
     of_others = λ e. answer_to_command None e;
   }
+
+-- ---- commands that stand on a list
+
+-- an entry with the command's bytes has this command
+pub spelled_stands : (list : List Entry) (place : ℕ) (entry : Entry) (command : KvCommand) → FitsCommand command
+    → slice_get list place ≡ Some entry → entry.payload ≡ Normal (spelled_command command) → command_on list place ≡ Some command
+spelled_stands list place entry command fits stands payload =
+    ap (option_and_then (λ (e : Entry). command_in e.payload)) stands ∙ ap command_in payload
+    ∙ ap result_ok (whole_again command_at spelled_command FitsCommand command_reads command fits)
 
 -- ---- the last change
 
