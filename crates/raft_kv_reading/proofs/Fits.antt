@@ -60,12 +60,9 @@ fields_fit : (bytes : List ℕ) (x : (List ℕ × List ℕ) × List ℕ) → bot
 fields_fit bytes x e =
     let key = bind_ok (key_at bytes) (λ k. (value_at k.1) >>= (λ v. Ok ((k.0, v.0), v.1))) x e in
     let value = bind_ok (value_at key.0.1) (λ v. Ok ((key.0.0, v.0), v.1)) x key.2 in
-    by key.0.0 value.0.0 value.0.1 (filled_fits 255 bytes key.0 key.1) (filled_fits 199 key.0.1 value.0 value.1) value.2
-  where
-    by : (key value rest : List ℕ) → IsFilled 255 key → IsFilled 199 value → Ok ((key, value), rest) ≡ Ok x → FitsCommand (put_of x.0)
-    by key value rest fits_key fits_value e =
-        let same : ((key, value), rest) ≡ x = cc in
-        subst (λ (y : (List ℕ × List ℕ) × List ℕ). FitsCommand (put_of y.0)) same (fits_key, fits_value)
+    let pair : (List ℕ × List ℕ) × List ℕ = ((key.0.0, value.0.0), value.0.1) in
+    let same : pair ≡ x = ok_is pair x value.2 in
+    subst (λ (y : (List ℕ × List ℕ) × List ℕ). FitsCommand (put_of y.0)) same (filled_fits 255 bytes key.0 key.1, filled_fits 199 key.0.1 value.0 value.1)
 
 command_fits : (bytes : List ℕ) (x : KvCommand × List ℕ) → command_at bytes ≡ Ok x → FitsCommand x.0
 unfolding command_at
