@@ -13,12 +13,12 @@ use Rattle.raft_machines.specs.Fold.{fold_of}
 use Rattle.raft_messages.specs.declared.memberships.SnapshotBytes.{SnapshotBytes}
 use Rattle.raft_step_laws.specs.Tokens.{HasItsOwnVote, OpensWithNone, RiseFrom, WaitsLeading, brought, leads_on}
 
--- A storage's snapshots are those of the machine: bytes stand for a snapshot just where they cover the same, and restore
--- the state that its entries give.
+-- A storage's snapshots are those of the machine: bytes that stand for a snapshot restore the state that its entries give, and those
+-- that the machine gives of that state stand for it, where they cover the same.
 pub record AreOfMachine (rules : MachineRules) (stands : SnapshotBytes → Snapshot → Type 0) : Type 0 where
   pub restores : (x : SnapshotBytes) (y : Snapshot) → stands x y → rules.restored x.bytes ≡ fold_of rules y.«prefix»
   pub stand : (x : SnapshotBytes) (y : Snapshot) → x.meta.last_log_id ≡ y.last → x.meta.last_membership ≡ y.membership
-      → rules.restored x.bytes ≡ fold_of rules y.«prefix» → stands x y
+      → rules.restored x.bytes ≡ fold_of rules y.«prefix» → x.bytes ≡ rules.snapshot (fold_of rules y.«prefix») → stands x y
 
 -- a stored snapshot has an entry at each place up to its last one
 abbrev pub HasWholeSnapshot : GroupState → Type 0

@@ -119,7 +119,7 @@ module _ {M : Type 0} (g : Ghosts M) (rules : MachineRules) (state : M → List 
   stopped_by : (mid : UpNode M g) (why : Fault (StoreFault EngineFault)) (stop : Stop) → new.up ≡ Some mid → Meets k n mid (storage_fault_of why) → error_of cause_of_log why ≡ Stopped stop → HasItsCause stop
   stopped_by mid (fault.Stopped c unknown) stop at met is =
       subst HasItsCause (stopped_is _ stop is)
-      (subst (λ (x : UpNode M g). HasCause (cause_of cause_of_log c) (files_of n) (files_of x)) (same_some mid m (sym at ∙ up)) (of_cause _ (files_of n) (files_of mid) c met.cause))
+      (subst (λ (x : UpNode M g). HasCause (cause_of cause_of_log c) (files_of n) (files_of x)) (same_some mid m (sym at ∙ up)) (of_cause _ (files_of n) (files_of mid) c met.log.cause))
   stopped_by mid (fault.NotLeader leader) stop at met is = absurd cc
   stopped_by mid fault.UnknownGroup stop at met is = absurd cc
   stopped_by mid fault.GroupExists stop at met is = absurd cc
@@ -243,5 +243,5 @@ module _ {M : Type 0} (g : Ghosts M) (rules : MachineRules) (state : M → List 
   opened_for_cause (inr (inl l)) =
       subst HasCauseOf (ap (λ (s : Stop). s.cause) (sym l.named))
       (subst (λ (f : LogFiles). HasCause (stop_in cause_of_log l.why).cause old.files f.files) (sym l.hands_back)
-      (cause_after (stop_in cause_of_log l.why).cause _ _ old.files l.log.engine.files l.behind.engine.files l.opens (of_stop _ l.log.engine.files l.behind.engine.files l.why l.met.cause)))
+      (cause_after (stop_in cause_of_log l.why).cause _ _ old.files l.log.engine.files l.behind.log.engine.files l.opens (of_stop _ l.log.engine.files l.behind.log.engine.files l.why l.met.log.cause)))
   opened_for_cause (inr (inr c)) = subst HasCauseOf (sym c.memory) tt

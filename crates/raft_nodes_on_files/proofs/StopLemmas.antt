@@ -52,10 +52,10 @@ module _ (k : NodeKind) where
   passed_well old new n mid (Err why) o met (is, up) = absurd (ok_not_err _ _ is)
 
   pub added_well : (old new : NodeOf k) (n : UpOf k) (group : ℕ) (o : NodeOutcome) → AddsTo k n group old (Ok o) new → EndsWell n new
-  added_well old new n group o a = passed_well old new n a.mid a.result o a.met a.passed
+  added_well old new n group o a = passed_well old new n a.mid a.result o a.met.log a.passed
 
   pub asked_well : (old new : NodeOf k) (n : UpOf k) (group now : ℕ) (call : GroupCall) (o : NodeOutcome) → AsksTo k n group call now old (Ok o) new → EndsWell n new
-  asked_well old new n group now call o a = passed_well old new n a.mid a.result o a.met a.passed
+  asked_well old new n group now call o a = passed_well old new n a.mid a.result o a.met.log a.passed
 
   one_well : (old new : NodeOf k) (n mid : UpOf k) (did : Outcome) (one : Result NodeOutcome NodeError) (o : Option NodeOutcome)
       → k.meets n.groups.storage.log mid.groups.storage.log None → IsPassed k old mid (Ok did) one new → Ok o ≡ some_outcome one → EndsWell n new
@@ -74,7 +74,7 @@ module _ (k : NodeKind) where
   fed_on old new n mid (one ∷ more) None o met fed = last_well old new n mid one more o met fed
 
   pub fed_well : (old new : NodeOf k) (n : UpOf k) (peer now : ℕ) (piece : List ℕ) (o : Option NodeOutcome) → FeedsTo k n peer piece now old (Ok o) new → EndsWell n new
-  fed_well old new n peer now piece o f = fed_on old new n f.mid f.outcomes f.met o f.why f.passed
+  fed_well old new n peer now piece o f = fed_on old new n f.mid f.outcomes f.met o f.why.log f.passed
 
 module _ {M : Type 0} (g : Ghosts M) (rules : MachineRules) (state : M → List ℕ) where
   abbrev of_files : NodeKind

@@ -6,7 +6,7 @@ use Rattle.raft_log_disk.specs.declared.crash.CrashChoice.{CrashChoice as FileCh
 use Rattle.raft_log_disk.specs.declared.crash.CrashRefusal.{CrashRefusal as FileRefusal}
 use Rattle.raft_log_engine.specs.Left.{answers_on}
 use Rattle.raft_log_engine.specs.Log.{CantBeLeftSo, IsCrashedLog, IsFusedLog, leaves_of_log}
-use Rattle.raft_log_engine.specs.Met.{Meets}
+use Rattle.raft_log_engine.specs.Met.{IsMisuse, Meets}
 use Rattle.raft_log_engine.specs.declared.fault.EngineFault.{EngineFault}
 use Rattle.raft_log_engine.specs.declared.memory.LogFiles.{LogFiles}
 use Rattle.raft_log_engine.specs.declared.memory.MemoryLog.{MemoryLog}
@@ -38,6 +38,7 @@ on_files {M = M} machine rules state = record {
   answers = λ l. answers_on disk_in l.engine;
   leaves = λ l content. leaves_of_log disk_in l content;
   meets = λ old new met. Meets disk_in is_bounded_in meter_in old new met;
+  misuse = λ fault. IsMisuse fault;
   refuses = λ l choice why. CantBeLeftSo choice why (disk_in l.engine.files);
   crashed = λ old choice new. IsCrashedLog disk_in meter_in old choice new;
   fused = λ old first new. IsFusedLog disk_in meter_in old first new;

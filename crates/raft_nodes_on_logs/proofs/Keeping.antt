@@ -52,7 +52,7 @@ use Rattle.raft_nodes_on_logs.proofs.Taken.{Behind, spells_of}
 abbrev opened_as : List NodeOutcome → Result (List NodeOutcome) Stop
 opened_as outcomes = Ok outcomes
 
-spelled_some : (frame : Frame) → 0 < length (spelled_frame frame)
+pub spelled_some : (frame : Frame) → 0 < length (spelled_frame frame)
 spelled_some frame =
     let long = length-append (to_be_bytes w32 (length (spelled_rest frame))) (spelled_rest frame) in
     let four : length (to_be_bytes w32 (length (spelled_rest frame))) ≡ 4 = refl in

@@ -1,11 +1,11 @@
-mod Standing
+pub mod Standing
 mod Led
-mod Taken
+pub mod Taken
 mod Calls
-mod Pieces
+pub mod Pieces
 mod Deliveries
-mod Openings
+pub mod Openings
 mod Lending
-mod Keeping
+pub mod Keeping
 pub mod Handing
 mod Beginning

@@ -36,11 +36,10 @@ use Rattle.raft_node_laws.specs.Law.{Leads, StandsBehind}
 use Rattle.raft_node_laws.specs.Saying.{IsOnceEach, names_of}
 use Rattle.raft_node_laws.specs.Saying as law
 use Rattle.raft_store.specs.Reading.{Holds, HoldsOne, StandsFor}
-use Rattle.raft_store.specs.Storable.{FailsBy}
 use Rattle.raft_store.specs.declared.fault.StoreFault.{StoreFault}
 use Rattle.raft_nodes_on_logs.specs.Acts.{AreHandedBack, AreHeld, CrashesTo, FusesDown, IsClosedAgain, IsLeftOpening, IsOpened, IsUnopened, OpensTo, StaysDown, log_node_acts, log_node_states}
 use Rattle.raft_nodes_on_logs.specs.Answering.{node_frame, node_outcome, stop_in}
-use Rattle.raft_nodes_on_logs.specs.Kept.{AreShownDown}
+use Rattle.raft_nodes_on_logs.specs.Kept.{AreShownDown, fails}
 use Rattle.raft_nodes_on_logs.specs.Kinds.{NodeKind}
 use Rattle.raft_node_logs.specs.Opening.{IsRefusedOpening}
 use Rattle.raft_nodes_on_logs.specs.Standing.{MayBeDown, MayBeIn, NodeOf, UpNode, value}
@@ -139,16 +138,16 @@ module _ (k : NodeKind) (begins : KeepsItsLaw k.rules k.rules.first) (restores :
       abbrev pick : (h : ℕ) → IsPicked k.rules (content h) ((down_at h).one ∷ (down_at h).more)
       pick h = picked k.rules (content h) ((down_at h).one ∷ (down_at h).more) ((down_at h).shown content found)
 
-      abbrev kept : ℕ → StoredGroup
+      abbrev pub kept : ℕ → StoredGroup
       kept h = (pick h).part
 
       among : (h : ℕ) → Contains (olds h) (Down (kept h))
       among h = subst (λ xs. Contains xs (Down (kept h))) (sym (down_at h).parts) (among_contains (map Down ((down_at h).one ∷ (down_at h).more)) (Down (kept h)) (pick h).among)
 
-      in_world : (h : ℕ) → StandsInWorld k.rules ids h history old.id (Down (kept h))
+      pub in_world : (h : ℕ) → StandsInWorld k.rules ids h history old.id (Down (kept h))
       in_world h = behind.stands h (Down (kept h)) (among h)
 
-      held : AreHeld k.rules old.id content kept
+      pub held : AreHeld k.rules old.id content kept
       held = record {
         held = λ h. (pick h).holds;
         reached = λ h there. down_nodes_are_reopened k.rules ids h history old.id (kept h) (in_world h);
@@ -213,7 +212,7 @@ module _ (k : NodeKind) (begins : KeepsItsLaw k.rules k.rules.first) (restores :
         let nobody = nobody_named k.cause l.why not_opened.stops in
         down_led old new old.id (AreShownDown k new.files) history (λ i. Reopen i) (Stopped (names_of stop)) olds (λ o. o ≡ Stopped (names_of stop)) refl stays
         (λ group parts shown. shown) refl
-        (left_openings_lead k.rules old.id (AreShownDown k new.files) (FailsBy k.rules l.refused) l.why ids history olds parts_of (names_of stop) (stands l.content l.found) not_opened
+        (left_openings_lead k.rules old.id (AreShownDown k new.files) (fails k l.behind) l.why ids history olds parts_of (names_of stop) (stands l.content l.found) not_opened
         (subst (λ s. NamesNobody (names_of s)) (sym l.named) nobody))
 
     pub unopened_led : (new : NodeOf k) (stop : Stop) → StaysDown k old new → IsUnopened k old.files old.id stop new.files

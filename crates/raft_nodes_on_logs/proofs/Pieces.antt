@@ -1,5 +1,5 @@
 -- A frame that comes in pieces comes whole at the last one.
-use Rattle.std.specs.Prelude.{◌≡◌, ◌⊎◌, ◌<◌, ◌≤◌, ◌+◌, ◌-◌, ◌&&◌, nat_lt, ℕ, Bool, true, false, List, [], ◌∷◌, ◌++◌, length, take, drop, Option, Some, None, Result, Ok, Err, refl}
+use Rattle.std.specs.Prelude.{◌≡◌, ◌⊎◌, ◌<◌, ◌≤◌, ◌+◌, ◌-◌, ◌&&◌, nat_lt, ℕ, Bool, true, false, List, [], ◌∷◌, ◌++◌, length, take, drop, Option, Some, None, option_and_then, Result, Ok, Err, refl}
 use Rattle.std.proofs.Common.{inl, inr, sym, ap, ◌∙◌, subst, ⊎_elim, arith}
 use Rattle.std.proofs.Math.Seq.{take-add, take-length}
 use Rattle.std.proofs.lemmas.Bool.{and_parts}
@@ -13,6 +13,7 @@ use Rattle.raft_node.specs.Feeding.{FeedsPart, FeedsWhole, FrameCame, StaysBut, 
 use Rattle.raft_node.specs.Settling.{IsStoppedBy, IsTold}
 use Rattle.raft_node.specs.Standing.{NodeValue}
 use Rattle.raft_node.specs.declared.outcome.Outcome.{Outcome}
+use Rattle.raft_node_faults.specs.Fault.{fault_met_by_node, storage_fault_of}
 use Rattle.raft_node_faults.specs.declared.fault.Cause.TheVariants as cause
 use Rattle.raft_node_faults.specs.declared.fault.Fault.{Fault}
 use Rattle.raft_node_laws.specs.Delivery.{Comes, GoesOn, piece, pieces_from}
@@ -20,7 +21,7 @@ use Rattle.raft_store.specs.Reading.{StandsFor}
 use Rattle.raft_wire.specs.Frames.{FitsFrame, spelled_frame}
 use Rattle.raft_wire.specs.Stream.{fresh, holding}
 use Rattle.raft_wire.specs.declared.frame.Frame.{Frame}
-use Rattle.raft_nodes_on_logs.specs.Acts.{FeedsTo, IsFed, IsFedOn, IsPassed, IsUpAs, WhenUp, log_node_acts, refused, some_outcome}
+use Rattle.raft_nodes_on_logs.specs.Acts.{FeedsTo, IsFed, IsFedOn, IsPassed, IsUpAs, Meets, WhenUp, log_node_acts, refused, some_outcome}
 use Rattle.raft_nodes_on_logs.specs.Answering.{error_of}
 use Rattle.raft_nodes_on_logs.specs.Kept.{KeepingFault}
 use Rattle.raft_nodes_on_logs.specs.Kinds.{NodeKind}
@@ -82,6 +83,7 @@ module _ (k : NodeKind) (frame : Frame) (fits : FitsFrame frame) (peer now : ℕ
     pub y : UpNode k
     pub result : Answer (KeepingFault k)
     pub came : FrameCame k.rules (StandsFor k.rules) (of x) (of y) peer now frame result
+    pub met : Meets k x y (fault_met_by_node result)
     pub one : Result NodeOutcome NodeError
     pub passed : IsPassed k old y result one new
     pub answer : answered ≡ some_outcome one
@@ -128,22 +130,23 @@ module _ (k : NodeKind) (frame : Frame) (fits : FitsFrame frame) (peer now : ℕ
     -- ---- the last piece
 
     fed_whole : (node : NodeOf k) (x : UpNode k) (begin : ℕ) → IsHere node x begin → (y : UpNode k) (outcomes : List Outcome) (met : Option (Fault (KeepingFault k))) (used : ℕ)
-        (p : List ℕ) → FeedsWhole k.rules (StandsFor k.rules) (of x) (of y) peer now frame p outcomes met used
+        (p : List ℕ) → FeedsWhole k.rules (StandsFor k.rules) (of x) (of y) peer now frame p outcomes met used → Meets k x y (option_and_then storage_fault_of met)
         → (first : Result (Option NodeOutcome) NodeError) (next : NodeOf k) → IsFedOn k node y outcomes met first next
         → CameOrNot old first next
-    fed_whole node x begin here y [] None used p whole first next fed = absurd whole
-    fed_whole node x begin here y [] (Some why) used p (inl (took, came)) first next fed = inl (record {
+    fed_whole node x begin here y [] None used p whole why_met first next fed = absurd whole
+    fed_whole node x begin here y [] (Some why) used p (inl (took, came)) why_met first next fed = inl (record {
       x = x;
       held = take begin bytes;
       along = here.along;
       y = y;
       result = Err why;
       came = came;
+      met = why_met;
       one = Err (error_of k.cause why);
       passed = (refl, (fed.1.0 ∙ here.id, fed.1.1));
       answer = fed.0;
     })
-    fed_whole node x begin here y [] (Some why) used p (inr s) first next fed = inr (record {
+    fed_whole node x begin here y [] (Some why) used p (inr s) why_met first next fed = inr (record {
       x = x;
       held = take begin bytes;
       along = here.along;
@@ -154,19 +157,20 @@ module _ (k : NodeKind) (frame : Frame) (fits : FitsFrame frame) (peer now : ℕ
       answer = fed.0;
       up = (fed.1.0 ∙ here.id, fed.1.1);
     })
-    fed_whole node x begin here y (o ∷ []) None used p (took, came) first next fed = inl (record {
+    fed_whole node x begin here y (o ∷ []) None used p (took, came) why_met first next fed = inl (record {
       x = x;
       held = take begin bytes;
       along = here.along;
       y = y;
       result = Ok o;
       came = came;
+      met = why_met;
       one = fed.0;
       passed = passed_on node y (Ok o) fed.0 next here.id fed.1;
       answer = fed.2;
     })
-    fed_whole node x begin here y (o ∷ []) (Some why) used p whole first next fed = absurd whole
-    fed_whole node x begin here y (o ∷ q ∷ os) met used p whole first next fed = absurd whole
+    fed_whole node x begin here y (o ∷ []) (Some why) used p whole why_met first next fed = absurd whole
+    fed_whole node x begin here y (o ∷ q ∷ os) met used p whole why_met first next fed = absurd whole
 
     some_there : (one : Result NodeOutcome NodeError) → some_outcome one ≡ Ok None → ⊥
     some_there (Ok o) is = let no : some_fed o ≡ none_fed = is in cc
@@ -191,7 +195,7 @@ module _ (k : NodeKind) (frame : Frame) (fits : FitsFrame frame) (peer now : ℕ
         let some : 0 < length p = piece_long bytes begin (length bytes) here.inside (omega arith) in
         let whole = f.fed.whole frame (still_going x (take begin bytes) here.along) (sound x (take begin bytes) here.along) fits some
         (far x (take begin bytes) p here.along ∙ held_so bytes begin (length bytes) (omega (arith, here.inside)) ∙ take-length bytes) in
-        let c = fed_whole node x begin here f.mid f.outcomes f.met f.used p whole first next f.passed in
+        let c = fed_whole node x begin here f.mid f.outcomes f.met f.used p whole f.why first next f.passed in
         ended first next answered new ((answered ≡ Ok None) × (new ≡ next)) (there first next c) goes c
 
     -- ---- a piece before it

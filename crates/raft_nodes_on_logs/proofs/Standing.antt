@@ -1,6 +1,6 @@
 -- Where a node on files stands, as the node in it.
 use Rattle.std.specs.Prelude.{◌≡◌, ℕ, List, Option, Some, Contains}
-use Rattle.std.proofs.Common.{sym, subst}
+use Rattle.std.proofs.Common.{inl, sym, subst}
 use Rattle.raft_applier.specs.Following.{AreOfMachine}
 use Rattle.raft_headline.specs.ClusterEvent.{Recorded}
 use Rattle.raft_headline.specs.Machines.{KeepsItsLaw}
@@ -21,7 +21,7 @@ use Rattle.raft_nodes_on_logs.specs.Standing.{MayBeIn, MayBeUp, NodeOf, UpNode, 
 pub are_of_machine : (rules : MachineRules) → AreOfMachine rules (StandsFor rules)
 are_of_machine rules = record {
   restores = λ x y s. s.state;
-  stand = λ x y last membership state. record { last = last; membership = membership; state = state };
+  stand = λ x y last membership state made. record { last = last; membership = membership; state = state; made = inl made };
 }
 
 module _ (k : NodeKind) (begins : KeepsItsLaw k.rules k.rules.first) (restores : (m : k.Machine) → KeepsItsLaw k.rules (k.state m)) where

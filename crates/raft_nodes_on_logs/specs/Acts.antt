@@ -37,16 +37,14 @@ use Rattle.raft_node_joint.specs.Saying.{Spells}
 use Rattle.raft_node_laws.specs.Answered.{stop_behind}
 use Rattle.raft_node_laws.specs.Law.{first_state}
 use Rattle.raft_node_laws.specs.Saying.{AreRising, names_of}
-use Rattle.raft_store.specs.Faults.{log_fault}
+use Rattle.raft_store.specs.Faults.{Meets as MeetsAs}
 use Rattle.raft_store.specs.Reading.{Holds, StandsFor}
-use Rattle.raft_store.specs.Storable.{FailsBy}
 use Rattle.raft_store.specs.declared.fault.StoreFault.{StoreFault}
-use Rattle.raft_store.specs.declared.fault.StoreRefusal.{StoreRefusal}
 use Rattle.raft_wire.specs.Frames.{FitsFrame, spelled_frame}
 use Rattle.raft_wire.specs.Stream.{fresh}
 use Rattle.raft_wire.specs.declared.frame.Frame.{Frame}
 use Rattle.raft_nodes_on_logs.specs.Answering.{error_of, node_outcome, stop_in}
-use Rattle.raft_nodes_on_logs.specs.Kept.{AreShownBy, AreShownDown, KeepingFault}
+use Rattle.raft_nodes_on_logs.specs.Kept.{AreShownBy, AreShownDown, Keeping, KeepingFault, fails, is_used_well}
 use Rattle.raft_nodes_on_logs.specs.Kinds.{NodeKind}
 use Rattle.raft_node_logs.specs.Opening.{FindsSame, IsRefusedOpening}
 use Rattle.raft_nodes_on_logs.specs.Standing.{MayBeIn, NodeOf, UpNode, log_node_may_be, value}
@@ -76,9 +74,12 @@ module _ (k : NodeKind) where
   abbrev of : UpNode k → NodeValue
   of n = value k n
 
-  -- the fault that the calls of its log met, from one to the other
+  -- the fault that its store's calls met, from one to the other
   abbrev pub Meets : UpNode k → UpNode k → Option (KeepingFault k) → Type 0
-  Meets n mid fault = k.meets n.groups.storage.log mid.groups.storage.log (option_and_then log_fault fault)
+  Meets n mid met =
+      let old = n.groups.storage in
+      let new = mid.groups.storage in
+      MeetsAs (k.meets old.log new.log) k.misuse (is_used_well k old) (is_used_well k new) new.refused new.failed_cleaning met
 
   -- ---- what a node answers is passed on
 
@@ -221,14 +222,14 @@ module _ (k : NodeKind) where
     pub found : k.found old content
     pub why : Fault (KeepingFault k)
     pub named : stop ≡ stop_in k.cause why
-    -- what its store refused of a command, if it did
-    pub refused : Option StoreRefusal
-    pub left : (kept : ℕ → StoredGroup) → AreHeld k.rules id content kept → HasNotOpened id kept (AreShownBy k.rules k.found new) (FailsBy k.rules refused) why
+    -- its store then, and the log that it began with
+    pub behind : Keeping k
+    pub left : (kept : ℕ → StoredGroup) → AreHeld k.rules id content kept → HasNotOpened id kept (AreShownBy k.rules k.found new) (fails k behind) why
     pub log : k.Log
     pub opens : k.opens old log
-    pub behind : k.Log
-    pub met : k.meets log behind (option_and_then log_fault (storage_fault_of why))
-    pub hands_back : k.hands_back behind new
+    pub met : MeetsAs (k.meets log behind.log) k.misuse ((kept : ℕ → StoredGroup) × AreHeld k.rules id content kept) (is_used_well k behind) behind.refused behind.failed_cleaning
+        (storage_fault_of why)
+    pub hands_back : k.hands_back behind.log new
 
   -- the files of a node that goes down show what it showed of its groups
   abbrev pub AreHandedBack : UpNode k → k.Files → Type 0

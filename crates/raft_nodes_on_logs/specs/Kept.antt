@@ -1,10 +1,11 @@
 -- Where a node keeps its groups: a store in its log.
-use Rattle.std.specs.Prelude.{◌≡◌, ℕ, List, None}
+use Rattle.std.specs.Prelude.{◌≡◌, ℕ, List, None, false}
 use Rattle.raft_group_step.specs.StoredGroup.{StoredGroup}
 use Rattle.raft_group_storage.specs.Keeping.{Fails}
 use Rattle.raft_log_memtables.specs.Content.{Content}
 use Rattle.raft_machines.specs.Machine.{MachineRules}
 use Rattle.raft_store.specs.Batches.{ShowsBy}
+use Rattle.raft_store.specs.Faults.{IsUsedWell}
 use Rattle.raft_store.specs.Reading.{HoldsOne}
 use Rattle.raft_store.specs.Storable.{FailsBy}
 use Rattle.raft_store.specs.declared.store.Store.{Store}
@@ -25,13 +26,17 @@ module _ (k : NodeKind) where
 
   -- whether none of its calls has failed, what it shows of a group, and at which commands it may have failed
   abbrev pub is_well : Keeping → Type 0
-  is_well x = k.is_sound x.log × (x.refused ≡ None)
+  is_well x = k.is_sound x.log × (x.refused ≡ None) × (x.failed_cleaning ≡ false)
+
+  -- whether it has been used well
+  abbrev pub is_used_well : Keeping → Type 0
+  is_used_well x = IsUsedWell k.is_sound k.answers k.leaves x.log x.recent
 
   abbrev pub shows : Keeping → ℕ → List StoredGroup → Type 0
   shows x group parts = ShowsBy k.rules k.is_sound k.answers k.leaves x.log x.recent group parts
 
   abbrev pub fails : Keeping → Fails
-  fails x = FailsBy k.rules x.refused
+  fails x = FailsBy k.rules x.refused x.failed_cleaning
 
   abbrev pub AreShownDown : k.Files → ℕ → List StoredGroup → Type 0
   AreShownDown files group parts = AreShownBy k.rules k.found files group parts

@@ -28,6 +28,8 @@ pub record NodeKind : Type 1 where
   pub answers : Log → Content (List ℕ)
   pub leaves : Log → Leaves
   pub meets : Log → Log → Option Fault → Type 0
+  -- which of its faults tell of a misuse
+  pub misuse : Fault → Type 0
   pub refuses : Log → Choice → Refusal → Type 0
   -- what it is behind a crash that left what was chosen, and behind a fuse
   pub crashed : Log → Choice → Log → Type 0
@@ -64,6 +66,7 @@ kind_of {Machine = Machine} {Log = Log} {Fault = Fault} {Files = Files} {Setting
   answers = log.answers;
   leaves = log.leaves;
   meets = log.meets;
+  misuse = log.is_misuse;
   refuses = crash.refuses;
   crashed = crash.crashed;
   fused = crash.fused;

@@ -1,4 +1,4 @@
--- What is shown for any machine is shown for one whose state says nothing: any bytes restore that.
+-- What is shown for any machine is shown for one whose state says nothing: any bytes restore that, and these are its snapshot.
 use Rattle.std.proofs.Common.{◌≡◌, ◌+◌, inl, inr, ℕ, List, [], ◌∷◌, Option, Some, None, refl, ap, ◌∙◌}
 use Rattle.raft_state.specs.declared.entry.EntryPayload.TheVariants.{Blank, Normal, Membership as Members}
 use Rattle.raft_group_step.specs.Values.{Entry, EntryPayload}
@@ -12,62 +12,62 @@ use Rattle.raft_store.specs.Batches.{ShowsIn}
 use Rattle.raft_store.specs.Reading.{Holds, HoldsOne, HoldsSnapshot, StandsFor}
 use Rattle.raft_store.specs.declared.recent.Recent.{Recent}
 
-abbrev pub blank_rules : MachineRules
-blank_rules = record {
+abbrev pub blank_rules : List ℕ → MachineRules
+blank_rules bytes = record {
   first = [];
   step = λ state place command. [];
   answer = λ state place command. [];
-  snapshot = λ state. [];
+  snapshot = λ state. bytes;
   restored = λ bytes. [];
 }
 
-still_blank : (place : ℕ) (payload : EntryPayload) → after_payload blank_rules [] place payload ≡ []
-still_blank place Blank = refl
-still_blank place (Normal command) = refl
-still_blank place (Members m) = refl
+still_blank : (bytes : List ℕ) (place : ℕ) (payload : EntryPayload) → after_payload (blank_rules bytes) [] place payload ≡ []
+still_blank bytes place Blank = refl
+still_blank bytes place (Normal command) = refl
+still_blank bytes place (Members m) = refl
 
-blank_from : (place : ℕ) (es : List Entry) → state_from blank_rules [] place es ≡ []
-blank_from place [] = refl
-blank_from place (e ∷ es) = ap (λ (state : List ℕ). state_from blank_rules state (place + 1) es) (still_blank place e.payload) ∙ blank_from (place + 1) es
+blank_from : (bytes : List ℕ) (place : ℕ) (es : List Entry) → state_from (blank_rules bytes) [] place es ≡ []
+blank_from bytes place [] = refl
+blank_from bytes place (e ∷ es) = ap (λ (state : List ℕ). state_from (blank_rules bytes) state (place + 1) es) (still_blank bytes place e.payload) ∙ blank_from bytes (place + 1) es
 
 -- a snapshot that any bytes stand for
 abbrev pub covered : SnapshotBytes → Snapshot
 covered x = record { last = x.meta.last_log_id; membership = x.meta.last_membership; «prefix» = [] }
 
-pub stands_blank : (x : SnapshotBytes) → StandsFor blank_rules x (covered x)
-stands_blank x = record { last = refl; membership = refl; state = refl }
+pub stands_blank : (x : SnapshotBytes) → StandsFor (blank_rules x.bytes) x (covered x)
+stands_blank x = record { last = refl; membership = refl; state = refl; made = inl refl }
 
 -- ---- what is held
 
-snapshot_blank : (rules : MachineRules) (value : Option (List ℕ)) (x : Option Snapshot) → HoldsSnapshot rules value x → HoldsSnapshot blank_rules value x
-snapshot_blank rules None None h = tt
-snapshot_blank rules None (Some y) h = absurd h
-snapshot_blank rules (Some bytes) None h = absurd h
-snapshot_blank rules (Some bytes) (Some y) h = (h.0, h.1, h.2, record { last = h.3.last; membership = h.3.membership; state = same })
+snapshot_blank : (given : List ℕ) (rules : MachineRules) (value : Option (List ℕ)) (x : Option Snapshot) → HoldsSnapshot rules value x → HoldsSnapshot (blank_rules given) value x
+snapshot_blank given rules None None h = tt
+snapshot_blank given rules None (Some y) h = absurd h
+snapshot_blank given rules (Some bytes) None h = absurd h
+snapshot_blank given rules (Some bytes) (Some y) h = (h.0, h.1, h.2, record { last = h.3.last; membership = h.3.membership; state = same; made = inr h.2.bytes })
   where
-    same : [] ≡ fold_of blank_rules y.«prefix»
-    same = let e = blank_from 0 y.«prefix» in cc
+    same : [] ≡ fold_of (blank_rules given) y.«prefix»
+    same = let e = blank_from given 0 y.«prefix» in cc
 
-holds_blank : (rules : MachineRules) (g : GroupContent (List ℕ)) (s : StoredGroup) → Holds rules g s → Holds blank_rules g s
-holds_blank rules g s h = record {
+holds_blank : (given : List ℕ) (rules : MachineRules) (g : GroupContent (List ℕ)) (s : StoredGroup) → Holds rules g s → Holds (blank_rules given) g s
+holds_blank given rules g s h = record {
   present = h.present;
   vote = h.vote;
   end = h.end;
   purged = h.purged;
   purged_fits = h.purged_fits;
-  snapshot = snapshot_blank rules _ s.snapshot h.snapshot;
+  snapshot = snapshot_blank given rules _ s.snapshot h.snapshot;
   log = h.log;
   reach = h.reach;
 }
 
-one_blank : (rules : MachineRules) (g : GroupContent (List ℕ)) (s : StoredGroup) → HoldsOne rules g (s ∷ []) → HoldsOne blank_rules g (s ∷ [])
-one_blank rules g s (inl h) = inl (holds_blank rules g s h)
-one_blank rules g s (inr none) = absurd none
+one_blank : (given : List ℕ) (rules : MachineRules) (g : GroupContent (List ℕ)) (s : StoredGroup) → HoldsOne rules g (s ∷ []) → HoldsOne (blank_rules given) g (s ∷ [])
+one_blank given rules g s (inl h) = inl (holds_blank given rules g s h)
+one_blank given rules g s (inr none) = absurd none
 
-pub shows_blank : (rules : MachineRules) (sound : Type 0) (answers : Content (List ℕ)) (leaves : Leaves) (recent : Option Recent) (group : ℕ) (s : StoredGroup)
-    → ShowsIn rules sound answers leaves recent group (s ∷ []) → ShowsIn blank_rules sound answers leaves recent group (s ∷ [])
-shows_blank rules sound answers leaves recent group s shown = record {
-  answered = λ is. one_blank rules (answers group) s (shown.answered is);
-  left = λ content may. one_blank rules (content group) s (shown.left content may);
+pub shows_blank : (given : List ℕ) (rules : MachineRules) (sound : Type 0) (answers : Content (List ℕ)) (leaves : Leaves) (recent : Option Recent) (group : ℕ) (s : StoredGroup)
+    → ShowsIn rules sound answers leaves recent group (s ∷ []) → ShowsIn (blank_rules given) sound answers leaves recent group (s ∷ [])
+shows_blank given rules sound answers leaves recent group s shown = record {
+  answered = λ is. one_blank given rules (answers group) s (shown.answered is);
+  left = λ content may. one_blank given rules (content group) s (shown.left content may);
   recalled = shown.recalled;
 }

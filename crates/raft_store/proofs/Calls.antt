@@ -1,5 +1,5 @@
 -- What a storage's calls meet, where they may have failed, and what is noted of them.
-use Rattle.std.proofs.Common.{◌≡◌, inr, ℕ, Bool, true, false, eqb, List, [], ◌∷◌, Option, None, Ok, Err, IfErr, OnErr, OnOk, refl, sym, subst, ◌∙◌, eq-eqb, eqb-true}
+use Rattle.std.proofs.Common.{◌≡◌, inr, ℕ, Bool, true, false, eqb, List, [], ◌∷◌, Option, None, Ok, Err, IfErr, IfSome, OnErr, OnOk, refl, sym, subst, ◌∙◌, eq-eqb, eqb-true}
 use Rattle.std.specs.Prelude.{Result, option_and_then}
 use Rattle.std.specs.Result.{result_err}
 use Rattle.raft_group_step.specs.StoredGroup.{StoredGroup, StoringCommand, after_storing}
@@ -13,6 +13,7 @@ use Rattle.raft_store.specs.Storable.{FailsBy, IsStorable, fails_anyhow}
 use Rattle.raft_store.specs.declared.fault.StoreFault.{StoreFault}
 use Rattle.raft_store.specs.declared.fault.StoreFault.TheVariants.{Log, Refused}
 use Rattle.raft_store.specs.declared.fault.StoreRefusal.{StoreRefusal}
+use Rattle.raft_store.specs.declared.fault.StoreRefusal.TheVariants as refusal
 use Rattle.raft_store.specs.declared.recent.Recent.{Recent}
 
 -- ---- each group
@@ -96,24 +97,27 @@ module _ {X F : Type 0} (sound : X → Type 0) (answers : X → Content (List �
 
 -- ---- where they may have failed
 
-module _ {F : Type 0} (misuse : F → Type 0) (rules : MachineRules) (before after : Option StoreRefusal) (none : before ≡ None) where
+module _ {F : Type 0} (misuse : F → Type 0) (rules : MachineRules) (before after : Option StoreRefusal) (none : before ≡ None) (cleaning : Bool) (calm : cleaning ≡ false) where
+  abbrev Bears : Option StoreRefusal → StoringCommand → StoredGroup → Type 0
+  Bears x c s = IfSome x (λ refused. IsStorable rules s c → refused ≡ refusal.Memory)
+
   -- a call that stores
   pub storing_fails : {T : Type 0} (old new : ℕ → List StoredGroup → Type 0) (group : ℕ) (c : StoringCommand) (r : Result T (StoreFault F)) → after ≡ noted_after before (result_err r)
       → OnErr r (MayHaveStored old new group c)
       → ((s : StoredGroup) → old group (s ∷ []) → IsStorable rules s c → IfErr r (IsLogOrMemory misuse))
-      → OnErr r (MayStore old new (FailsBy rules after) group c)
+      → OnErr r (MayStore old new (FailsBy rules after cleaning) group c)
   storing_fails old new group c (Ok v) noted err takes = tt
-  storing_fails old new group c (Err (Log fault)) noted err takes = λ s shown. (err s shown, fails_anyhow rules after (noted ∙ none) c s)
+  storing_fails old new group c (Err (Log fault)) noted err takes = λ s shown. (err s shown, fails_anyhow rules after cleaning (noted ∙ none) calm c s)
   storing_fails old new group c (Err (Refused refused)) noted err takes =
-      λ s shown. (err s shown, subst (λ (x : Option StoreRefusal). FailsBy rules x c s) (sym noted) (λ is. takes s shown is))
+      λ s shown. (err s shown, (calm, subst (λ (x : Option StoreRefusal). Bears x c s) (sym noted) (λ is. takes s shown is)))
 
   -- a call that reads
-  pub reading_fails : {T : Type 0} (r : Result T (StoreFault F)) → after ≡ noted_after before (result_err r) → IfErr r (IsLogOrMemory misuse) → OnErr r (FailsAnyhow (FailsBy rules after))
+  pub reading_fails : {T : Type 0} (r : Result T (StoreFault F)) → after ≡ noted_after before (result_err r) → IfErr r (IsLogOrMemory misuse) → OnErr r (FailsAnyhow (FailsBy rules after cleaning))
   reading_fails (Ok v) noted cause = tt
-  reading_fails (Err (Log fault)) noted cause = fails_anyhow rules after (noted ∙ none)
-  reading_fails (Err (Refused refused)) noted cause = λ c s. subst (λ (x : Option StoreRefusal). FailsBy rules x c s) (sym noted) (λ is. cause)
+  reading_fails (Err (Log fault)) noted cause = fails_anyhow rules after cleaning (noted ∙ none) calm
+  reading_fails (Err (Refused refused)) noted cause = λ c s. (calm, subst (λ (x : Option StoreRefusal). Bears x c s) (sym noted) (λ is. cause))
 
 -- a call that succeeds changes no note
-pub still_well : {T F : Type 0} (sound : Type 0) (before after : Option StoreRefusal) (r : Result T (StoreFault F)) → before ≡ None → after ≡ noted_after before (result_err r) → OnOk r sound → OnOk r (sound × (after ≡ None))
-still_well sound before after (Ok v) none noted is = (is, noted ∙ none)
-still_well sound before after (Err fault) none noted is = tt
+pub still_well : {T F : Type 0} (sound : Type 0) (before after : Option StoreRefusal) (cleaning : Bool) (r : Result T (StoreFault F)) → before ≡ None → cleaning ≡ false → after ≡ noted_after before (result_err r) → OnOk r sound → OnOk r (sound × (after ≡ None) × (cleaning ≡ false))
+still_well sound before after cleaning (Ok v) none calm noted is = (is, noted ∙ none, calm)
+still_well sound before after cleaning (Err fault) none calm noted is = tt

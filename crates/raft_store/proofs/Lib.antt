@@ -10,3 +10,4 @@ pub mod Blank
 pub mod Calls
 pub mod Lengths
 pub mod Records
+pub mod Storable

@@ -3,6 +3,7 @@ use Rattle.std.specs.Prelude.{◌≡◌, ◌⊎◌, ◌<◌, ◌≤◌, ◌^◌,
 use Rattle.std.specs.Int.{w64, to_be_bytes}
 use Rattle.raft_values.specs.declared.vote.Vote.{Vote}
 use Rattle.raft_values.specs.Vote.{vote_of}
+use Rattle.raft_group_step.specs.Limits.{snapshot_limit}
 use Rattle.raft_group_step.specs.Values.{Entry}
 use Rattle.raft_group_step.specs.StoredGroup.{Snapshot, StoredGroup, end_place, first_place}
 use Rattle.raft_messages.specs.declared.memberships.SnapshotBytes.{SnapshotBytes}
@@ -17,11 +18,12 @@ use Rattle.raft_store.specs.Keys.{end_key, group_key, purged_key, snapshot_key, 
 use Rattle.raft_store.specs.declared.recent.Recent.{Recent}
 
 -- A snapshot with a machine's bytes stands for one with entries: it covers the same, and its bytes restore the state that
--- the entries give.
+-- the entries give. They are those that the machine gives of that state, or came in a frame, which has no more than a snapshot may have
 pub record StandsFor (rules : MachineRules) (x : SnapshotBytes) (y : Snapshot) : Type 0 where
   pub last : x.meta.last_log_id ≡ y.last
   pub membership : x.meta.last_membership ≡ y.membership
   pub state : rules.restored x.bytes ≡ fold_of rules y.«prefix»
+  pub made : (x.bytes ≡ rules.snapshot (fold_of rules y.«prefix»)) ⊎ (length x.bytes ≤ snapshot_limit)
 
 -- ---- what each key holds
 

@@ -1,20 +1,18 @@
 -- What a store takes: a storing call of this kind is refused for want of memory alone.
-use Rattle.std.specs.Prelude.{◌≡◌, ◌≤◌, ◌<◌, ◌+◌, ◌^◌, ℕ, List, length, Option, None, IfSome, IsTrue, All}
+use Rattle.std.specs.Prelude.{◌≡◌, ◌≤◌, ◌<◌, ◌+◌, ◌^◌, ℕ, Bool, false, List, length, Option, None, IfSome, IsTrue, All}
 use Rattle.std.proofs.Common.{subst, sym}
 use Rattle.raft_values.specs.declared.log_id.LogId.{LogId}
-use Rattle.raft_group_step.specs.Limits.{entries_in_request}
+use Rattle.raft_group_step.specs.Limits.{entries_in_request, snapshot_limit}
 use Rattle.raft_group_step.specs.Refusal.{is_payload_short}
-use Rattle.raft_group_step.specs.Values.{Entry}
+use Rattle.raft_group_step.specs.Values.{Entry, LoggedMembership, is_within_limits}
 use Rattle.raft_group_step.specs.StoredGroup.{Snapshot, StoredGroup, StoringCommand, end_place, first_place}
 use Rattle.raft_group_step.specs.StoredGroup.{CutFrom, MakeGroup, PutEntries, RemoveUpTo, SetSnapshot, SetVote, StartAfter}
 use Rattle.raft_group_storage.specs.Keeping.{Fails, FailsAnyhow}
-use Rattle.raft_messages.specs.declared.memberships.SnapshotBytes.{SnapshotBytes}
-use Rattle.raft_wire.specs.Frames.{fault_of_snapshot}
 use Rattle.raft_wire.specs.declared.error.FrameFault.TheVariants as frame_fault
 use Rattle.raft_log_records.specs.Spelling.{record_len}
+use Rattle.raft_machines.specs.Fold.{fold_of}
 use Rattle.raft_machines.specs.Machine.{MachineRules}
 use Rattle.raft_store.specs.Batches.{entry_changes, of_group}
-use Rattle.raft_store.specs.Reading.{StandsFor}
 use Rattle.raft_store.specs.declared.fault.StoreRefusal.{StoreRefusal}
 use Rattle.raft_store.specs.declared.fault.StoreRefusal.TheVariants as refusal
 
@@ -35,9 +33,10 @@ pub record IsStorablePurge (s : StoredGroup) (id : LogId ℕ) : Type 0 where
   pub low : first_place s ≤ id.index + 1
   pub place : id.index + 1 < 2 ^ 64
 
--- a snapshot whose membership is within its limits, and the machine's bytes, whichever stand for it
-abbrev pub IsStorableSnapshot : MachineRules → Snapshot → Type 0
-IsStorableSnapshot rules y = (x : SnapshotBytes) → StandsFor rules x y → fault_of_snapshot x.meta.last_membership x.bytes ≡ None
+-- a snapshot whose membership is within its limits, and the machine's bytes of what its entries give
+pub record IsStorableSnapshot (rules : MachineRules) (y : Snapshot) : Type 0 where
+  pub membership : IfSome y.membership (λ (m : LoggedMembership). IsTrue (is_within_limits m.membership))
+  pub bytes : length (rules.snapshot (fold_of rules y.«prefix»)) ≤ snapshot_limit
 
 -- A store takes the command where this is stored. A put of as many entries as this is shorter than a record may be, and so is a
 -- snapshot within its limits.
@@ -64,10 +63,10 @@ IsPutRefusal group place es refusal.BadEnd = ⊥
 
 -- ---- where a call may have failed
 
--- by what is noted: where a command was refused that the store takes, memory was wanting
-abbrev pub FailsBy : MachineRules → Option StoreRefusal → Fails
-FailsBy rules noted c s = IfSome noted (λ refused. IsStorable rules s c → refused ≡ refusal.Memory)
+-- by what is noted: no cleaning failed, and where a command was refused that the store takes, memory was wanting
+abbrev pub FailsBy : MachineRules → Option StoreRefusal → Bool → Fails
+FailsBy rules noted cleaning c s = (cleaning ≡ false) × IfSome noted (λ refused. IsStorable rules s c → refused ≡ refusal.Memory)
 
--- where nothing is noted it may have failed at any one
-pub fails_anyhow : (rules : MachineRules) (noted : Option StoreRefusal) → noted ≡ None → FailsAnyhow (FailsBy rules noted)
-fails_anyhow rules noted is c s = subst (λ (x : Option StoreRefusal). FailsBy rules x c s) (sym is) tt
+-- where nothing is noted, and no cleaning failed, it may have failed at any one
+pub fails_anyhow : (rules : MachineRules) (noted : Option StoreRefusal) (cleaning : Bool) → noted ≡ None → cleaning ≡ false → FailsAnyhow (FailsBy rules noted cleaning)
+fails_anyhow rules noted cleaning is calm c s = (calm, subst (λ (x : Option StoreRefusal). IfSome x (λ refused. IsStorable rules s c → refused ≡ refusal.Memory)) (sym is) tt)

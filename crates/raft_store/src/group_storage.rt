@@ -14,14 +14,14 @@ impl<M: StateMachine, L: ContentLog> GroupStorage for Store<M, L> {
 
     type Fault = StoreFault<L::Fault>;
 
-    ghost use Rattle.std.specs.Prelude.{◌≡◌, None};
+    ghost use Rattle.std.specs.Prelude.{◌≡◌, None, false};
     ghost use Rattle.raft_store.specs.Batches.{ShowsBy};
     ghost use Rattle.raft_store.specs.Faults.{IsUsedWell, Meets, calls_later, calls_want, no_call};
     ghost use Rattle.raft_store.specs.Reading.{StandsFor};
     ghost use Rattle.raft_store.specs.Showing.{shows_more};
     ghost use Rattle.raft_store.specs.Storable.{FailsBy, fails_anyhow};
 
-    ghost is_well = { λ x. L.is_sound x.log × (x.refused ≡ None) };
+    ghost is_well = { λ x. L.is_sound x.log × (x.refused ≡ None) × (x.failed_cleaning ≡ false) };
 
     ghost shows = { λ x group parts. ShowsBy M.rules L.is_sound L.answers L.leaves x.log x.recent group parts };
 
@@ -31,7 +31,7 @@ impl<M: StateMachine, L: ContentLog> GroupStorage for Store<M, L> {
         (IsUsedWell L.is_sound L.answers L.leaves old.log old.recent) (IsUsedWell L.is_sound L.answers L.leaves new.log new.recent)
         new.refused new.failed_cleaning met };
 
-    ghost fails = { λ x c s. FailsBy M.rules x.refused c s };
+    ghost fails = { λ x c s. FailsBy M.rules x.refused x.failed_cleaning c s };
 
     ghost shows_more = { λ x. shows_more M.rules L.is_sound L.answers L.leaves x.log x.recent };
 
@@ -42,7 +42,7 @@ impl<M: StateMachine, L: ContentLog> GroupStorage for Store<M, L> {
 
     ghost meets_want = { λ x y refused why gives first. calls_want L.is_misuse (L.meets x.log y.log) _ _ _ _ why gives first };
 
-    ghost well_fails = { λ x well. fails_anyhow M.rules x.refused well.1 };
+    ghost well_fails = { λ x well. fails_anyhow M.rules x.refused x.failed_cleaning well.1 well.2 };
 
     fn make_group(&mut self, group: u64) -> Result<(), StoreFault<L::Fault>> {
         let made = Store::make_group(self, group);

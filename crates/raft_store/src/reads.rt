@@ -59,6 +59,7 @@ impl<M: StateMachine, L: ContentLog> Store<M, L> {
         ensures kept { (rules : MachineRules) → KeepsAll (ShowsBy rules L.is_sound L.answers L.leaves self.old.log self.old.recent) (ShowsBy rules L.is_sound L.answers L.leaves self.new.log self.new.recent) }
         ensures met { L.meets self.old.log self.new.log (option_and_then log_fault (result_err result)) }
         ensures refused { self.new.refused ≡ self.old.refused }
+        ensures cleaning { self.new.failed_cleaning ≡ self.old.failed_cleaning }
     {
         match self.log.get(group, key) {
             Ok(value) => Ok(value),
@@ -79,6 +80,7 @@ impl<M: StateMachine, L: ContentLog> Store<M, L> {
         ensures kept { (rules : MachineRules) → KeepsAll (ShowsBy rules L.is_sound L.answers L.leaves self.old.log self.old.recent) (ShowsBy rules L.is_sound L.answers L.leaves self.new.log self.new.recent) }
         ensures met { L.meets self.old.log self.new.log (option_and_then log_fault (result_err result)) }
         ensures refused { self.new.refused ≡ self.old.refused }
+        ensures cleaning { self.new.failed_cleaning ≡ self.old.failed_cleaning }
     {
         match self.log.fetch_entries_to(group, begin, end) {
             Ok(bytes) => Ok(bytes),
@@ -100,6 +102,7 @@ impl<M: StateMachine, L: ContentLog> Store<M, L> {
         ensures kept { (rules : MachineRules) → KeepsAll (ShowsBy rules L.is_sound L.answers L.leaves self.old.log self.old.recent) (ShowsBy rules L.is_sound L.answers L.leaves self.new.log self.new.recent) }
         ensures met { L.meets self.old.log self.new.log (option_and_then log_fault (result_err result)) }
         ensures refused { self.new.refused ≡ self.old.refused }
+        ensures cleaning { self.new.failed_cleaning ≡ self.old.failed_cleaning }
     {
         let purged_value = self.get(group, b"purged")?;
         let end_value = self.get(group, b"end")?;
@@ -119,6 +122,7 @@ impl<M: StateMachine, L: ContentLog> Store<M, L> {
         ensures kept { (rules : MachineRules) → KeepsAll (ShowsBy rules L.is_sound L.answers L.leaves self.old.log self.old.recent) (ShowsBy rules L.is_sound L.answers L.leaves self.new.log self.new.recent) }
         ensures met { L.meets self.old.log self.new.log (option_and_then log_fault (result_err result)) }
         ensures refused { self.new.refused ≡ self.old.refused }
+        ensures cleaning { self.new.failed_cleaning ≡ self.old.failed_cleaning }
     {
         Ok(self.get(group, b"group")?.is_some())
     }
@@ -133,6 +137,7 @@ impl<M: StateMachine, L: ContentLog> Store<M, L> {
         ensures kept { (rules : MachineRules) → KeepsAll (ShowsBy rules L.is_sound L.answers L.leaves self.old.log self.old.recent) (ShowsBy rules L.is_sound L.answers L.leaves self.new.log self.new.recent) }
         ensures met { L.meets self.old.log self.new.log (option_and_then log_fault (result_err result)) }
         ensures refused { self.new.refused ≡ self.old.refused }
+        ensures cleaning { self.new.failed_cleaning ≡ self.old.failed_cleaning }
     {
         let value = self.get(group, b"vote")?;
         Ok(vote_of(value)?)
@@ -152,6 +157,7 @@ impl<M: StateMachine, L: ContentLog> Store<M, L> {
         ensures kept { (rules : MachineRules) → KeepsAll (ShowsBy rules L.is_sound L.answers L.leaves self.old.log self.old.recent) (ShowsBy rules L.is_sound L.answers L.leaves self.new.log self.new.recent) }
         ensures met { L.meets self.old.log self.new.log (option_and_then log_fault (result_err result)) }
         ensures refused { self.new.refused ≡ self.old.refused }
+        ensures cleaning { self.new.failed_cleaning ≡ self.old.failed_cleaning }
     {
         if places.is_empty() {
             return Ok(Vec::new(alloc));
@@ -196,6 +202,7 @@ impl<M: StateMachine, L: ContentLog> Store<M, L> {
         ensures kept { (rules : MachineRules) → KeepsAll (ShowsBy rules L.is_sound L.answers L.leaves self.old.log self.old.recent) (ShowsBy rules L.is_sound L.answers L.leaves self.new.log self.new.recent) }
         ensures met { L.meets self.old.log self.new.log (option_and_then log_fault (result_err result)) }
         ensures refused { self.new.refused ≡ self.old.refused }
+        ensures cleaning { self.new.failed_cleaning ≡ self.old.failed_cleaning }
     {
         let value = self.get(group, b"snapshot")?;
         Ok(snapshot_of(alloc, value)?)
@@ -219,6 +226,7 @@ impl<M: StateMachine, L: ContentLog> Store<M, L> {
         ensures kept { (rules : MachineRules) → KeepsAll (ShowsBy rules L.is_sound L.answers L.leaves self.old.log self.old.recent) (ShowsBy rules L.is_sound L.answers L.leaves self.new.log self.new.recent) }
         ensures met { L.meets self.old.log self.new.log (option_and_then log_fault (result_err result)) }
         ensures refused { self.new.refused ≡ self.old.refused }
+        ensures cleaning { self.new.failed_cleaning ≡ self.old.failed_cleaning }
     {
         if let Some(entries) = self.recalled(alloc, group, prev, last)? {
             return Ok(Entries::from_vec(entries));
@@ -239,6 +247,7 @@ impl<M: StateMachine, L: ContentLog> Store<M, L> {
         ensures kept { (rules : MachineRules) → KeepsAll (ShowsBy rules L.is_sound L.answers L.leaves self.old.log self.old.recent) (ShowsBy rules L.is_sound L.answers L.leaves self.new.log self.new.recent) }
         ensures met { L.meets self.old.log self.new.log (option_and_then log_fault (result_err result)) }
         ensures refused { self.new.refused ≡ self.old.refused }
+        ensures cleaning { self.new.failed_cleaning ≡ self.old.failed_cleaning }
     {
         let bounds = self.bounds(group)?;
         let present = self.is_present(group)?;
@@ -265,6 +274,7 @@ impl<M: StateMachine, L: ContentLog> Store<M, L> {
         ensures kept { (rules : MachineRules) → KeepsAll (ShowsBy rules L.is_sound L.answers L.leaves self.old.log self.old.recent) (ShowsBy rules L.is_sound L.answers L.leaves self.new.log self.new.recent) }
         ensures met { L.meets self.old.log self.new.log (option_and_then log_fault (result_err result)) }
         ensures refused { self.new.refused ≡ self.old.refused }
+        ensures cleaning { self.new.failed_cleaning ≡ self.old.failed_cleaning }
     {
         let logged = self.logged_groups()?;
         self.made_among(alloc, logged)
@@ -282,6 +292,7 @@ impl<M: StateMachine, L: ContentLog> Store<M, L> {
         ensures kept { (rules : MachineRules) → KeepsAll (ShowsBy rules L.is_sound L.answers L.leaves self.old.log self.old.recent) (ShowsBy rules L.is_sound L.answers L.leaves self.new.log self.new.recent) }
         ensures met { L.meets self.old.log self.new.log (option_and_then log_fault (result_err result)) }
         ensures refused { self.new.refused ≡ self.old.refused }
+        ensures cleaning { self.new.failed_cleaning ≡ self.old.failed_cleaning }
     {
         let mut made = Vec::new(alloc);
         for group in groups {
@@ -303,6 +314,7 @@ impl<M: StateMachine, L: ContentLog> Store<M, L> {
         ensures kept { (rules : MachineRules) → KeepsAll (ShowsBy rules L.is_sound L.answers L.leaves self.old.log self.old.recent) (ShowsBy rules L.is_sound L.answers L.leaves self.new.log self.new.recent) }
         ensures met { L.meets self.old.log self.new.log (option_and_then log_fault (result_err result)) }
         ensures refused { self.new.refused ≡ self.old.refused }
+        ensures cleaning { self.new.failed_cleaning ≡ self.old.failed_cleaning }
     {
         match self.log.groups() {
             Ok(groups) => Ok(groups),

@@ -1,5 +1,5 @@
 //! A node's groups in a log.
-ghost use Rattle.std.specs.Prelude.{◌≡◌, ℕ, List, [], ◌∷◌, None, IfErr, OnOk, OnErr, option_and_then};
+ghost use Rattle.std.specs.Prelude.{◌≡◌, ℕ, List, [], ◌∷◌, None, IfErr, OnOk, OnErr, false, option_and_then};
 ghost use Rattle.std.specs.Result.{result_err};
 ghost use Rattle.raft_group_step.specs.StoredGroup.{Snapshot, StoredGroup};
 ghost use Rattle.raft_group_step.specs.StoredGroup.{CutFrom, MakeGroup, PutEntries, RemoveUpTo, SetSnapshot, SetVote, StartAfter};
@@ -13,6 +13,7 @@ ghost use Rattle.raft_store.specs.Faults.{IsLogOrMemory, IsNoMisuse, log_fault};
 ghost use Rattle.raft_machines.specs.Machine.{MachineRules};
 ghost use Rattle.raft_store.specs.Reading.{HoldsOne, StandsFor};
 ghost use Rattle.raft_store.specs.Storable.{IsStorable};
+ghost use Rattle.raft_wire.specs.Frames.{fault_of_snapshot};
 
 use crate::batches::{
     end_batch, entry_batch, make_batch, removal_batch, snapshot_batch, start_batch, vote_batch,
@@ -49,6 +50,7 @@ impl<M: StateMachine, L: ContentLog> Store<M, L> {
     pub fn new(alloc: Global, log: L) -> Store<M, L>
         ensures log { result.log ≡ log }
         ensures refused { result.refused ≡ None }
+        ensures cleaning { result.failed_cleaning ≡ false }
         ensures shown { (group : ℕ) (parts : List StoredGroup) → LeavesOnly (L.leaves log) (L.answers log) → HoldsOne M.rules (L.answers log group) parts
             → ShowsBy M.rules L.is_sound L.answers L.leaves result.log result.recent group parts }
         ensures none { (group : ℕ) → LeavesOnly (L.leaves log) (L.answers log) → L.answers log ≡ nothing
@@ -91,6 +93,7 @@ impl<M: StateMachine, L: ContentLog> Store<M, L> {
             → KeepsOthers (ShowsBy rules L.is_sound L.answers L.leaves self.old.log self.old.recent) (ShowsBy rules L.is_sound L.answers L.leaves self.new.log self.new.recent) group }
         ensures forgets { self.new.recent ≡ None }
         ensures refused { self.new.refused ≡ self.old.refused }
+        ensures cleaning { self.new.failed_cleaning ≡ self.old.failed_cleaning }
         ensures met { L.meets self.old.log self.new.log (option_and_then log_fault (result_err result)) }
         ensures fits { (rules : MachineRules) (group : ℕ) (changes : List (Change (List ℕ))) (s t : StoredGroup) → batch.old.items ≡ of_group group changes → Carries rules changes s t
             → L.is_sound self.old.log → ShowsBy rules L.is_sound L.answers L.leaves self.old.log self.old.recent group (s ∷ [])
@@ -123,6 +126,7 @@ impl<M: StateMachine, L: ContentLog> Store<M, L> {
         ensures takes { (rules : MachineRules) (s : StoredGroup) → L.is_sound self.old.log → ShowsBy rules L.is_sound L.answers L.leaves self.old.log self.old.recent group (s ∷ [])
             → IsStorable rules s MakeGroup → IfErr result (IsLogOrMemory L.is_misuse) }
         ensures refused { self.new.refused ≡ self.old.refused }
+        ensures cleaning { self.new.failed_cleaning ≡ self.old.failed_cleaning }
     {
         let mut batch = make_batch(self.alloc, group)?;
         self.store(&mut batch)
@@ -145,6 +149,7 @@ impl<M: StateMachine, L: ContentLog> Store<M, L> {
         ensures takes { (rules : MachineRules) (s : StoredGroup) → L.is_sound self.old.log → ShowsBy rules L.is_sound L.answers L.leaves self.old.log self.old.recent group (s ∷ [])
             → IsStorable rules s (SetVote vote) → IfErr result (IsLogOrMemory L.is_misuse) }
         ensures refused { self.new.refused ≡ self.old.refused }
+        ensures cleaning { self.new.failed_cleaning ≡ self.old.failed_cleaning }
     {
         let mut batch = vote_batch(self.alloc, group, vote)?;
         self.store(&mut batch)
@@ -170,8 +175,10 @@ impl<M: StateMachine, L: ContentLog> Store<M, L> {
         ensures fits { (rules : MachineRules) (s : StoredGroup) (x : Snapshot) → L.is_sound self.old.log → StandsFor rules snapshot.now x
             → ShowsBy rules L.is_sound L.answers L.leaves self.old.log self.old.recent group (s ∷ []) → IfErr result (IsNoMisuse L.is_misuse) }
         ensures takes { (rules : MachineRules) (s : StoredGroup) (x : Snapshot) → L.is_sound self.old.log → StandsFor rules snapshot.now x
-            → ShowsBy rules L.is_sound L.answers L.leaves self.old.log self.old.recent group (s ∷ []) → IsStorable rules s (SetSnapshot x) → IfErr result (IsLogOrMemory L.is_misuse) }
+            → ShowsBy rules L.is_sound L.answers L.leaves self.old.log self.old.recent group (s ∷ [])
+            → fault_of_snapshot snapshot.now.meta.last_membership snapshot.now.bytes ≡ None → IfErr result (IsLogOrMemory L.is_misuse) }
         ensures refused { self.new.refused ≡ self.old.refused }
+        ensures cleaning { self.new.failed_cleaning ≡ self.old.failed_cleaning }
     {
         let mut batch = snapshot_batch(self.alloc, group, snapshot)?;
         self.store(&mut batch)
@@ -203,6 +210,7 @@ impl<M: StateMachine, L: ContentLog> Store<M, L> {
         ensures takes { (rules : MachineRules) (s : StoredGroup) → L.is_sound self.old.log → ShowsBy rules L.is_sound L.answers L.leaves self.old.log self.old.recent group (s ∷ [])
             → IsStorable rules s (PutEntries place entries.now) → IfErr result (IsLogOrMemory L.is_misuse) }
         ensures refused { self.new.refused ≡ self.old.refused }
+        ensures cleaning { self.new.failed_cleaning ≡ self.old.failed_cleaning }
     {
         let bounds = self.bounds(group)?;
         bounds.check_place(place)?;
@@ -229,6 +237,7 @@ impl<M: StateMachine, L: ContentLog> Store<M, L> {
         ensures takes { (rules : MachineRules) (s : StoredGroup) → L.is_sound self.old.log → ShowsBy rules L.is_sound L.answers L.leaves self.old.log self.old.recent group (s ∷ [])
             → IsStorable rules s (CutFrom place) → IfErr result (IsLogOrMemory L.is_misuse) }
         ensures refused { self.new.refused ≡ self.old.refused }
+        ensures cleaning { self.new.failed_cleaning ≡ self.old.failed_cleaning }
     {
         let bounds = self.bounds(group)?;
         let mut batch = end_batch(self.alloc, group, bounds.cut_end(place))?;
@@ -254,6 +263,7 @@ impl<M: StateMachine, L: ContentLog> Store<M, L> {
         ensures takes { (rules : MachineRules) (s : StoredGroup) → L.is_sound self.old.log → ShowsBy rules L.is_sound L.answers L.leaves self.old.log self.old.recent group (s ∷ [])
             → IsStorable rules s (StartAfter id) → IfErr result (IsLogOrMemory L.is_misuse) }
         ensures refused { self.new.refused ≡ self.old.refused }
+        ensures cleaning { self.new.failed_cleaning ≡ self.old.failed_cleaning }
     {
         let bounds = self.bounds(group)?;
         bounds.check_purge(id)?;
@@ -280,6 +290,7 @@ impl<M: StateMachine, L: ContentLog> Store<M, L> {
         ensures takes { (rules : MachineRules) (s : StoredGroup) → L.is_sound self.old.log → ShowsBy rules L.is_sound L.answers L.leaves self.old.log self.old.recent group (s ∷ [])
             → IsStorable rules s (RemoveUpTo id) → IfErr result (IsLogOrMemory L.is_misuse) }
         ensures refused { self.new.refused ≡ self.old.refused }
+        ensures cleaning { self.new.failed_cleaning ≡ self.old.failed_cleaning }
     {
         let bounds = self.bounds(group)?;
         bounds.check_purge(id)?;

@@ -20,7 +20,7 @@ returns-in-Ok-clause-ok g c =
       content = k.answers log.log;
       found = log.ensures.found;
       opened = λ kept held. e.opened kept (are_of_machine k.rules) (record {
-        well = (subst k.is_sound (sym c.new.ensures.log) log.ensures.sound, c.new.ensures.refused);
+        well = (subst k.is_sound (sym c.new.ensures.log) log.ensures.sound, c.new.ensures.refused, c.new.ensures.cleaning);
         shown = λ group. c.new.ensures.shown group (kept group ∷ []) log.ensures.leaves (inl (held.held group));
         reached = held.reached;
       });
@@ -40,18 +40,24 @@ returns-in-Err-clause-err g c =
       found = log.ensures.found;
       why = c.in-Err.field-0.fault;
       named = c.as_stop.ensures;
-      refused = storage.refused;
       left = λ kept held. left_so c.args.id kept (shows k storage) (AreShownDown k c.into_files.result) (fails k storage) c.in-Err.field-0.fault
           (handed_back k storage c.into_files.result (λ content found.
           subst (λ (l : k.Log). k.leaves l content) c.into_log.ensures (c.into_files.ensures.left content found)))
           (e.stopped kept (are_of_machine k.rules) (record {
-            well = (subst k.is_sound (sym c.new.ensures.log) log.ensures.sound, c.new.ensures.refused);
+            well = (subst k.is_sound (sym c.new.ensures.log) log.ensures.sound, c.new.ensures.refused, c.new.ensures.cleaning);
             shown = λ group. c.new.ensures.shown group (kept group ∷ []) log.ensures.leaves (inl (held.held group));
             reached = held.reached;
           }));
       log = log.log;
       opens = log.ensures.opens;
-      behind = storage.log;
-      met = subst (λ (l : k.Log). k.meets l storage.log (option_and_then log_fault (storage_fault_of c.in-Err.field-0.fault))) c.new.ensures.log e.met.log;
+      behind = storage;
+      met = record {
+        log = subst (λ (l : k.Log). k.meets l storage.log (option_and_then log_fault (storage_fault_of c.in-Err.field-0.fault))) c.new.ensures.log e.met.log;
+        noted = e.met.noted;
+        used_well = λ used. e.met.used_well (
+          subst k.is_sound (sym c.new.ensures.log) log.ensures.sound,
+          λ group. (k.rules, used.0 group, c.new.ensures.shown group (used.0 group ∷ []) log.ensures.leaves (inl (used.1.held group))),
+        );
+      };
       hands_back = subst (λ (l : k.Log). k.hands_back l c.into_files.result) c.into_log.ensures c.into_files.ensures.hands_back;
     })

@@ -32,7 +32,6 @@ returns g c = λ e s of has idle its caught x is.
     ∙ cut_in_force s.stored engine.state.state.committed stands.order.placed
     ∙ ap (λ o. effective_of (membership_in_force (after_storing (CutFrom (next_place o)) s.stored))) (c.in-Some-committed.is ∙ ids) in
     let membership = c.in_ok-last_membership.ensures ∙ c.pair_of.ensures _ effective ∙ sym (shot_membership s x its is) in
-    let state =
-    ap rules.restored c.in_ok-bytes.ensures ∙ g.met.M.StateMachine.restores c.args.self.now.machine ∙ caught.folded
-    ∙ ap (fold_of rules) (sym (shot_list s x is)) in
-    of.stand built x last membership state
+    let folded = caught.folded ∙ ap (fold_of rules) (sym (shot_list s x is)) in
+    let state = ap rules.restored c.in_ok-bytes.ensures ∙ g.met.M.StateMachine.restores c.args.self.now.machine ∙ folded in
+    of.stand built x last membership state (c.in_ok-bytes.ensures ∙ ap rules.snapshot folded)

@@ -21,7 +21,7 @@ returns-in-Err-seat_new-clause-added g c = λ going absent.
     let made = unless_err _ _ c.in_default.not-Err (c.add_group.ensures.ok going absent) in
     let same = c.stop.ensures.groups in
     behind_adds g.M.StateMachine.rules g.S.GroupStorage.stands (value_of g.M.StateMachine.state g.S.GroupStorage.is_well g.S.GroupStorage.shows g.S.GroupStorage.fails c.stop.new.self) c.args.group
-    _ _ c.stop.result c.stop.ensures.stops (ap (λ x. x.has_failed) same) (g.met.S.GroupStorage.shows_more c.stop.new.self.groups.storage)
+    _ _ c.stop.result tt c.stop.ensures.stops (ap (λ x. x.has_failed) same) (g.met.S.GroupStorage.shows_more c.stop.new.self.groups.storage)
     (g.met.S.GroupStorage.well_fails c.stop.new.self.groups.storage
     (subst (λ x. g.S.GroupStorage.is_well x.storage) (sym same) (subst (λ x. g.S.GroupStorage.is_well x.storage) (sym c.seat_new.ensures.groups) made.holds.well)))
     (subst (λ x. g.S.GroupStorage.shows x.storage c.args.group (record no_group { present = true } ∷ [])) (sym same)

@@ -19,6 +19,6 @@ returns-in-Some-clause-does g c =
         elsewhere = e.elsewhere;
         names = λ why unknown is. subst (NamesWaiting (value k c.in-Some.node).running) is e.names;
       };
-      met = e.met.log;
+      met = e.met;
       passed = passed_from k c.args.self.now _ _ c.add_group-answered.new.self c.add_group-answered.result _ refl c.taken.ensures.passed;
     })

@@ -10,6 +10,6 @@ returns-in-Some-clause-does g c =
       mid = c.call-answered.new.self;
       result = c.call-answered.result;
       event = c.call-answered.ensures.event;
-      met = c.call-answered.ensures.met.log;
+      met = c.call-answered.ensures.met;
       passed = passed_from k c.args.self.now _ _ c.call-answered.new.self c.call-answered.result _ refl c.taken.ensures.passed;
     })

@@ -17,7 +17,7 @@ returns-in-Ok-clause-does g c =
       mid = m;
       going = going_on n.groups.has_failed c.clean_files.result _ (λ failed. (e.failed failed).0) c.in-Ok.is;
       rising = subst AreRising (sym c.from_vec.ensures) c.in-Ok.ensures.rising;
-      met = subst (λ r. Meets k n m (fault_met_by_node r)) c.in-Ok.is e.met.log;
+      met = subst (λ r. Meets k n m (fault_met_by_node r)) c.in-Ok.is e.met;
       stays = same_storage k n m same (λ well. when_ok c.clean_files.result _ _ c.in-Ok.is (e.well well)) e.kept;
       streams = same_streams k n m same;
       up = (refl, refl);
@@ -31,4 +31,4 @@ returns-in-Err-clause-does g c =
     let m = c.clean_files.new.self in
     when_up k c.args.self.now _ c.args.self.now.up n _ _ c.in-Some.is
     (not_cleaned k n m c.args.self.now _ c.clean_files.result c.in-Err.why c.error_of.result c.in-Err.is c.error_of.ensures (refl, refl) e.failed
-    (λ going. told_err c.clean_files.result c.in-Err.why _ c.in-Err.is (e.stops going)) (λ going. (when_err c.clean_files.result c.in-Err.why _ c.in-Err.is (e.stopped going)).0) e.kept e.met.log)
+    (λ going. told_err c.clean_files.result c.in-Err.why _ c.in-Err.is (e.stops going)) (λ going. (when_err c.clean_files.result c.in-Err.why _ c.in-Err.is (e.stopped going)).0) e.kept e.met)

@@ -18,6 +18,6 @@ returns-in-Some-clause-does g c =
         whole = e.whole;
         part = e.part;
       };
-      why = e.met.log;
+      why = e.met;
       passed = fed_from k c.args.self.now _ _ c.feed-fed.new.self r.outcomes.items r.fault _ refl c.fed.ensures.passed;
     })

@@ -14,7 +14,7 @@ returns-clause-err g c = λ well.
     let old = c.args.self.now in
     let new = c.put_entries-made.new.self in
     let made = c.put_entries-made.ensures in
-    storing_fails L.is_misuse rules new.refused c.noted_after-self.result (made.refused ∙ well.1) (ShowsBy rules L.is_sound L.answers L.leaves old.log old.recent) (ShowsBy rules L.is_sound L.answers L.leaves new.log new.recent)
+    storing_fails L.is_misuse rules new.refused c.noted_after-self.result (made.refused ∙ well.1) new.failed_cleaning (made.cleaning ∙ well.2) (ShowsBy rules L.is_sound L.answers L.leaves old.log old.recent) (ShowsBy rules L.is_sound L.answers L.leaves new.log new.recent)
     c.args.group (PutEntries c.args.place c.args.entries.now) c.put_entries-made.result c.noted_after-self.ensures (made.err rules well.0) (λ s shown is. made.takes rules s well.0 shown is)
 
 pub returns-clause-met : goal.returns-clause-met

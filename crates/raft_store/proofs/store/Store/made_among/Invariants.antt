@@ -19,6 +19,7 @@ invariant-loop-group g l =
       steady : L.is_sound l.self.log → L.is_sound l.initial.self.log × (L.answers l.self.log ≡ L.answers l.initial.self.log);
       kept : (rules : MachineRules) → KeepsAll (ShowsBy rules L.is_sound L.answers L.leaves l.initial.self.log l.initial.self.recent) (ShowsBy rules L.is_sound L.answers L.leaves l.self.log l.self.recent);
       refused : l.self.refused ≡ l.initial.self.refused;
+      cleaning : l.self.failed_cleaning ≡ l.initial.self.failed_cleaning;
       met : L.meets l.initial.self.log l.self.log None;
       left : into_iter_len l.group-iterator ≡ length (into_iter_items l.group-iterator);
     }

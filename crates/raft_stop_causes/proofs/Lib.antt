@@ -1,0 +1,6 @@
+mod Stored
+mod Events
+mod Causes
+mod Openings
+mod Law
+mod Files

@@ -1,0 +1,2 @@
+pub mod StorableSteps
+mod Adding
