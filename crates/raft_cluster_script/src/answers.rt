@@ -136,7 +136,10 @@ pub fn stop_text(alloc: Global, stop: &Stop) -> Result<String, AllocError>
 }
 
 /// What came of an event of nodes with this machine (own).
-pub fn outcome_text<M: ScriptMachine>(alloc: Global, outcome: &EventOutcome) -> Result<String, AllocError>
+pub fn outcome_text<M: ScriptMachine>(
+    alloc: Global,
+    outcome: &EventOutcome,
+) -> Result<String, AllocError>
     ensures { IfOk result (λ text. string_bytes text ≡ outcome_text M.speech.shows outcome.now) }
 {
     match outcome {

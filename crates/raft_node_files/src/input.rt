@@ -25,9 +25,9 @@ fn fault_of_line<M: ScriptMachine>(
     }
 }
 
-/// The lines of the input that the script of a node with such machines takes, one at each read (own). One that it
-/// doesn't take is told on standard error with its number, counted from 1. An empty line stands in
-/// its place: the script counts it, and passes it over.
+/// The lines of the input that the script of a node with such machines takes, one at each read (own).
+/// One that it doesn't take is told on standard error with its number, counted from 1. An empty line
+/// stands in its place: the script counts it, and passes it over.
 #[derive(Drop)]
 pub struct KnownLines<M: ScriptMachine, R: Read + Drop> {
     rt: HostRuntime,

@@ -20,11 +20,10 @@ use raft_node_script::{ScriptEnd, run_node_script};
 use raft_script_lines::number_of;
 use raft_script_machines::ScriptMachine;
 use settings::{SettingsFault, settings_in, settings_of_file};
-use std::env;
-use std::io;
 use std::marker::PhantomData;
 use std::process::ExitCode;
 use std::thread::Threads;
+use std::{env, io};
 
 const USAGE: &str = "usage: raft_node_files DIRECTORY ID [kv] [SETTINGS]";
 

@@ -71,7 +71,10 @@ fn push_told(text: &mut String, answer: &str) -> Result<(), AllocError>
 }
 
 /// What an opening or an event did: its frames, what it told, and the tokens that stay unknown (own).
-pub fn done_text<M: ScriptMachine>(alloc: Global, outcomes: Vec<Outcome>) -> Result<String, AllocError>
+pub fn done_text<M: ScriptMachine>(
+    alloc: Global,
+    outcomes: Vec<Outcome>,
+) -> Result<String, AllocError>
     ensures { IfOk result (λ text. string_bytes text ≡ done_text M.speech.shows outcomes.items) }
 {
     let mut text = String::from_str(alloc, "ok")?;

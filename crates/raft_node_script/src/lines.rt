@@ -160,7 +160,8 @@ fn line_in<M: ScriptMachine>(
 }
 
 /// What the bytes of a line say at this tick, behind so many tokens, where nodes have this machine
-/// (own). They come without their newline. An `Err` says why they are no event of a node, or that memory is missing.
+/// (own). They come without their newline. An `Err` says why they are no event of a node, or that
+/// memory is missing.
 pub fn read_node_line<M: ScriptMachine>(
     alloc: Global,
     node: u64,
