@@ -1,5 +1,6 @@
 //! The adding machine in scripts.
-ghost use Rattle.std.specs.Prelude.{◌≡◌, IfOk};
+ghost use Rattle.std.specs.Prelude.{◌≡◌, IfOk, Some};
+ghost use Rattle.raft_machines.specs.Adding.{state_of_total, total_of};
 ghost use Rattle.raft_script_machines.specs.Amounts.{amounts, total_in};
 
 use crate::machine::ScriptMachine;
@@ -17,6 +18,13 @@ fn total_in(answer: &[u8]) -> Option<u64>
         Ok(bytes) => Some(u64::from_be_bytes(bytes)),
         Err(_) => None,
     }
+}
+
+// The total that the state of a machine with this total is.
+fn total_again(total: u64) -> Option<u64>
+    ensures { result ≡ Some (total_of (state_of_total total)) }
+{
+    Some(total)
 }
 
 impl ScriptMachine for AddingMachine {
@@ -41,6 +49,6 @@ impl ScriptMachine for AddingMachine {
     }
 
     fn total_of(&self) -> Option<u64> {
-        Some(self.total())
+        total_again(self.total())
     }
 }

@@ -21,7 +21,7 @@ fn spelled(alloc: Global, command: &KvCommand) -> Result<Option<Bytes>, AllocErr
     match write_kv(alloc, command) {
         Ok(bytes) => Ok(Some(Bytes::from_slice(alloc, bytes.as_slice())?)),
         Err(FrameError::Memory) => Err(AllocError),
-        Err(_) => Ok(None),
+        Err(FrameError::Fault(_) | FrameError::StreamFailed) => Ok(None),
     }
 }
 
