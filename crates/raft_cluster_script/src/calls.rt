@@ -237,12 +237,25 @@ pub fn event_of<M: ScriptMachine>(
             voters,
             learners,
         } => init_of(alloc, now, node, group, (voters, learners)),
-        ScriptEvent::Propose { node, group, .. }
-        | ScriptEvent::Put { node, group, .. }
-        | ScriptEvent::Get { node, group, .. }
-        | ScriptEvent::Drop { node, group, .. } => {
+        ScriptEvent::Propose { node, group, .. } => {
             Ok(proposed_at(now, token, node, group, command))
         }
+        ScriptEvent::Put {
+            node,
+            group,
+            key: _key,
+            value: _value,
+        } => Ok(proposed_at(now, token, node, group, command)),
+        ScriptEvent::Get {
+            node,
+            group,
+            key: _key,
+        }
+        | ScriptEvent::Drop {
+            node,
+            group,
+            key: _key,
+        } => Ok(proposed_at(now, token, node, group, command)),
         ScriptEvent::Elect { node, group } => Ok(ask(now, node, group, GroupCall::Elect)),
         ScriptEvent::Heartbeat { node, group } => Ok(ask(now, node, group, GroupCall::Heartbeat)),
         ScriptEvent::Lost { node, group, peer } => {
