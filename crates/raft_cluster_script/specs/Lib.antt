@@ -1,4 +1,3 @@
 pub mod Calls
 pub mod Answers
 pub mod Script
-pub mod Either

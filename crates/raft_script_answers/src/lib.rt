@@ -2,12 +2,9 @@
 #![tactic(auto)]
 
 mod answer;
-mod numbers;
 mod refusal;
-mod shown;
-mod told;
+mod told_total;
 
 pub use answer::{done_text, refused_text, stopped_text, total_text};
 pub use refusal::Refusal;
-pub use shown::{AppliedTotal, SentNumber};
-pub use told::{push_full, push_total, push_value};
+pub use told_total::{AppliedTotal, SentNumber, ToldTotal};

@@ -1,3 +1,0 @@
-pub mod Amounts
-pub mod Keys
-pub mod Speech
