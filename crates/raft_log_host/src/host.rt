@@ -4,6 +4,7 @@
 ghost use Rattle.std.specs.Prelude.{◌≡◌, ◌<◌, [], ◌∷◌, false, true, length, IfOk, OnErr, is_ok};
 ghost use Rattle.raft_log_host.specs.Calls.{HostCall, IsNoted, IsTold, flag, noted};
 
+use crate::folder::folder_of;
 use crate::record::Record;
 use std::alloc::Global;
 use std::fs::OpenOptions;
@@ -130,8 +131,7 @@ fn move_to(rt: &HostRuntime, files: &mut Vec<HostFile>, from: &str, to: &str) ->
 }
 
 fn sync_folder(rt: &HostRuntime, path: &str) -> io::Result<()> {
-    let folder = path.rsplit_once('/').map_or(".", |parts| parts.0);
-    fs::File::open(rt, folder)?.sync_all()
+    fs::File::open(rt, folder_of(path))?.sync_all()
 }
 
 // What an earlier process wrote and didn't sync is synced before it is read.

@@ -3,6 +3,7 @@
 #![tactic(auto)]
 
 mod files;
+mod folder;
 mod host;
 mod loading;
 mod opening;

@@ -6,6 +6,7 @@ ghost use Rattle.raft_log_host.specs.Loading.{HasOnlyLoaded};
 ghost use Rattle.raft_log_host.specs.Mirror.{Replays, host_disk};
 
 use crate::files::HostFileSystem;
+use crate::folder::folder_of;
 use crate::host::Host;
 use raft_log_disk::{FileSystem, IoFault, MemoryFileSystem};
 use raft_log_files::{FileNameExt, parse_reserved_file_name};
@@ -48,10 +49,7 @@ impl From<AllocError> for OpenError {
 // The directory, if it is not there. What holds it has to be.
 fn make_directory(rt: &HostRuntime, directory: &str) -> io::Result<()> {
     match fs::create_dir(rt, directory) {
-        Ok(()) => {
-            let folder = directory.rsplit_once('/').map_or(".", |parts| parts.0);
-            fs::File::open(rt, folder)?.sync_all()
-        }
+        Ok(()) => fs::File::open(rt, folder_of(directory))?.sync_all(),
         Err(error) if error.kind() == ErrorKind::AlreadyExists => Ok(()),
         Err(error) => Err(error),
     }
