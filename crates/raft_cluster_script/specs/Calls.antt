@@ -51,27 +51,32 @@ abbrev pub proposed_at : ℕ → ℕ → ℕ → ℕ → Option (List ℕ) → O
 proposed_at node group now token None = None
 proposed_at node group now token (Some command) = Some (events.Ask node group (calls.Propose command token) now)
 
+-- what a line asks of a node's group, other than to run a command
+abbrev pub asked_by : ℕ → ℕ → ScriptEvent → Option ClusterEvent
+asked_by now token (said.Init node group voters learners) =
+    Some (events.Ask node group (calls.Initialize (membership_of voters learners)) now)
+asked_by now token (said.Elect node group) = Some (events.Ask node group calls.Elect now)
+asked_by now token (said.Heartbeat node group) = Some (events.Ask node group calls.Heartbeat now)
+asked_by now token (said.Lost node group peer) = Some (events.Ask node group (calls.Lost peer) now)
+asked_by now token (said.Snapshot node group) = Some (events.Ask node group calls.TriggerSnapshot now)
+asked_by now token (said.Purge node group index) = Some (events.Ask node group (calls.TriggerPurge index) now)
+asked_by now token (said.Addr node group id address) = asked_at node group now (change_if (is_utf8 address) id address token)
+asked_by now token (said.Voters node group ids) =
+    Some (events.Ask node group (calls.ChangeMembership (AddVoterIds (rising_ids nat_cmp ids)) token) now)
+asked_by now token _ = None
+
 -- the event that a line names, at a moment and where the line's token is this one
 abbrev pub event_by : Option (List ℕ) → ℕ → ℕ → ScriptEvent → Option ClusterEvent
 event_by command now token (said.Add node group) = Some (events.AddGroup node group)
-event_by command now token (said.Init node group voters learners) =
-    Some (events.Ask node group (calls.Initialize (membership_of voters learners)) now)
 event_by command now token (said.Propose node group amount) = proposed_at node group now token command
 event_by command now token (said.Put node group key value) = proposed_at node group now token command
 event_by command now token (said.Get node group key) = proposed_at node group now token command
 event_by command now token (said.Drop node group key) = proposed_at node group now token command
-event_by command now token (said.Elect node group) = Some (events.Ask node group calls.Elect now)
-event_by command now token (said.Heartbeat node group) = Some (events.Ask node group calls.Heartbeat now)
-event_by command now token (said.Lost node group peer) = Some (events.Ask node group (calls.Lost peer) now)
-event_by command now token (said.Snapshot node group) = Some (events.Ask node group calls.TriggerSnapshot now)
-event_by command now token (said.Purge node group index) = Some (events.Ask node group (calls.TriggerPurge index) now)
-event_by command now token (said.Addr node group id address) = asked_at node group now (change_if (is_utf8 address) id address token)
-event_by command now token (said.Voters node group ids) =
-    Some (events.Ask node group (calls.ChangeMembership (AddVoterIds (rising_ids nat_cmp ids)) token) now)
 event_by command now token (said.Deliver group number cut) = Some (events.Deliver group number (cuts_at cut) now)
 event_by command now token (said.Clean node) = Some (events.Clean node)
 event_by command now token (said.Crash node choice) = Some (events.Crash node (choice_of choice))
 event_by command now token (said.Reopen node workers) = Some (events.Reopen node workers)
+event_by command now token event = asked_by now token event
 
 -- the command that it proposes is in the machine's words
 abbrev pub event_of : (ScriptEvent → Option (List ℕ)) → ℕ → ℕ → ScriptEvent → Option ClusterEvent

@@ -4,7 +4,7 @@ ghost use Rattle.std.specs.Ordering.{nat_cmp};
 ghost use Rattle.std.specs.String.{string_bytes};
 ghost use Rattle.raft_quorums.specs.Quorum.{rising_ids};
 ghost use Rattle.std.specs.Str.{is_utf8};
-ghost use Rattle.raft_cluster_script.specs.Calls.{asked_at, change_if, choice_of, cuts_at, event_of, has_token, membership_of, proposed_at, tokens_after, with_address, with_addresses};
+ghost use Rattle.raft_cluster_script.specs.Calls.{asked_at, asked_by, change_if, choice_of, cuts_at, event_of, has_token, membership_of, proposed_at, tokens_after, with_address, with_addresses};
 
 use raft_cluster_events::{ClusterEvent, CrashChoice, GroupCommand, Sequence};
 use raft_group_step::GroupCall;
@@ -218,44 +218,22 @@ fn crash_of(node: u64, choice: LineChoice) -> Option<ClusterEvent>
     Some(ClusterEvent::Crash { node, choice })
 }
 
-/// The event that a line names, at a moment and where the line's token is this one (own); none where
-/// an address is no text, or the machine has no such command.
-pub fn event_of<M: ScriptMachine>(
+// What a line asks of a node's group, other than to run a command.
+fn asked_of(
     alloc: Global,
     now: u64,
     token: u64,
     event: ScriptEvent,
 ) -> Result<Option<ClusterEvent>, AllocError>
-    ensures { IfOk result (λ e. e ≡ event_of M.speech.proposes now token event) }
+    ensures { IfOk result (λ e. e ≡ asked_by now token event) }
 {
-    let command = M::command_of(alloc, &event)?;
     match event {
-        ScriptEvent::Add { node, group } => Ok(Some(ClusterEvent::AddGroup { node, group })),
         ScriptEvent::Init {
             node,
             group,
             voters,
             learners,
         } => init_of(alloc, now, node, group, (voters, learners)),
-        ScriptEvent::Propose { node, group, .. } => {
-            Ok(proposed_at(now, token, node, group, command))
-        }
-        ScriptEvent::Put {
-            node,
-            group,
-            key: _key,
-            value: _value,
-        } => Ok(proposed_at(now, token, node, group, command)),
-        ScriptEvent::Get {
-            node,
-            group,
-            key: _key,
-        }
-        | ScriptEvent::Drop {
-            node,
-            group,
-            key: _key,
-        } => Ok(proposed_at(now, token, node, group, command)),
         ScriptEvent::Elect { node, group } => Ok(ask(now, node, group, GroupCall::Elect)),
         ScriptEvent::Heartbeat { node, group } => Ok(ask(now, node, group, GroupCall::Heartbeat)),
         ScriptEvent::Lost { node, group, peer } => {
@@ -276,9 +254,33 @@ pub fn event_of<M: ScriptMachine>(
         ScriptEvent::Voters { node, group, ids } => {
             Ok(ask(now, node, group, more_voters(alloc, &ids, token)?))
         }
+        _ => Ok(None),
+    }
+}
+
+/// The event that a line names, at a moment and where the line's token is this one (own); none where
+/// an address is no text, or the machine has no such command.
+pub fn event_of<M: ScriptMachine>(
+    alloc: Global,
+    now: u64,
+    token: u64,
+    event: ScriptEvent,
+) -> Result<Option<ClusterEvent>, AllocError>
+    ensures { IfOk result (λ e. e ≡ event_of M.speech.proposes now token event) }
+{
+    let command = M::command_of(alloc, &event)?;
+    match event {
+        ScriptEvent::Add { node, group } => Ok(Some(ClusterEvent::AddGroup { node, group })),
+        ScriptEvent::Propose { node, group, .. }
+        | ScriptEvent::Put { node, group, .. }
+        | ScriptEvent::Get { node, group, .. }
+        | ScriptEvent::Drop { node, group, .. } => {
+            Ok(proposed_at(now, token, node, group, command))
+        }
         ScriptEvent::Deliver { group, number, cut } => delivery_of(alloc, now, group, number, cut),
         ScriptEvent::Clean { node } => Ok(Some(ClusterEvent::Clean { node })),
         ScriptEvent::Crash { node, choice } => Ok(crash_of(node, choice)),
         ScriptEvent::Reopen { node, workers } => Ok(Some(ClusterEvent::Reopen { node, workers })),
+        event => asked_of(alloc, now, token, event),
     }
 }
