@@ -226,3 +226,38 @@ class Chooser:
         line = self.line()
         self.script.answer(line)
         return [line, *self.cleanings()]
+
+
+# The keys of random scripts, and their values.
+KEYS = ("a", "b", "key", "clé")
+VALUES = ("red", "green", "blue", "1", "v" * 199)
+
+
+class KeysChooser(Chooser):
+    """The same on nodes that keep values by keys."""
+
+    def __init__(self, seed, nodes, groups, first=7):
+        super().__init__(seed, nodes, groups, first)
+        self.firsts[0] = f"kv {nodes}"
+
+    def command(self, node, group):
+        """A command of some key to the node."""
+        key = self.chance.one_of(KEYS, "a")
+        verb = ("put", "put", "get", "drop")[self.chance.below(4)]
+        value = f" {self.chance.one_of(VALUES, 'red')}" if verb == "put" else ""
+        return f"{verb} {node} {group} {key}{value}"
+
+    def propose(self, group):
+        """A leader is to take a command."""
+        return self.command(self.leader(group), group)
+
+    def total(self, group):
+        """Any node is to take one: a map has no total."""
+        return self.command(self.any_node(), group)
+
+    def odd(self, group):
+        """There is no such node, frame or group."""
+        verb, *words = super().odd(group).split(" ")
+        if verb in ("propose", "total"):
+            return self.command(*words[:2])
+        return " ".join([verb, *words])

@@ -1,15 +1,14 @@
-"""A cluster that runs a script: for each group a world, with a machine that adds up and the tokens
-that wait. It answers lines as docs/SCRIPT.md says."""
+"""A cluster that runs a script: for each group a world, with a machine and the tokens that wait. It answers lines as docs/SCRIPT.md says."""
 
 from copy import deepcopy
 from dataclasses import dataclass, field
 from typing import Dict, List, Optional
 
 from plain_rules.events import Change, Event
+from plain_rules.machines import FULL, Adding, Keys, run
 from plain_rules.membership import Membership
 from plain_rules.state import State
 from plain_rules.stored import Stored
-from plain_rules.values import Command
 from plain_rules.world import DONE, STOPPED, Member, World
 
 # What nodes' refusals are called, by what the rules call them.
@@ -32,8 +31,6 @@ NAMES = {
 SHORTEST_FRAME = 48
 PAST_FRAMES = 1 << 40
 
-BASE = 1 << 64
-
 # A storing command is one batch, which is appended to a file and synced.
 CALLS_OF_COMMAND = 2
 
@@ -54,21 +51,11 @@ class Group:
     waiting: Dict[int, List[Untold]] = field(default_factory=dict)
 
 
-def total_of(entries):
-    """What the commands of 8 bytes add up to."""
-    total = 0
-    for entry in entries:
-        if isinstance(entry.payload, Command) and len(entry.payload.data) == 8:
-            total = (total + int.from_bytes(entry.payload.data, "big")) % BASE
-    return total
-
-
-def told_text(untold, held):
+def told_text(machine, untold, held):
     """What is told of a token, at a node that holds this list."""
-    payload = held[untold.place].payload
-    is_total = isinstance(payload, Command) and len(payload.data) == 8
-    value = total_of(held[: untold.place + 1]) if is_total else "-"
-    return f" told {untold.token}@{untold.place}={value}"
+    _, said = run(machine, held[: untold.place + 1])
+    at = f"{untold.token}@{untold.place}"
+    return f" full {at}" if said is FULL else f" told {at}={said}"
 
 
 def refused_text(mark):
@@ -82,12 +69,18 @@ class Script:
 
     def __init__(self):
         self.ids = ()
+        self.machine = Adding
         self.down = set()
         self.groups: Dict[int, Group] = {}
         self.tokens = 0
         self.now = 0
         # After how many storing commands the event that happens stops, if it does.
         self.stop = None
+
+    @property
+    def others(self):
+        """The first words of lines that nodes of this machine don't take."""
+        return (Keys if self.machine is Adding else Adding).verbs
 
     # ---- groups
 
@@ -135,7 +128,7 @@ class Script:
             if self.lead_of(world, node) != lead_before and lead_before is not None:
                 unknown += f" unknown {untold.token}"
             elif member.up.applied is not None and untold.place <= member.up.applied:
-                told += told_text(untold, held)
+                told += told_text(self.machine, untold, held)
             else:
                 left.append(untold)
         waiting[node] = left
@@ -186,9 +179,9 @@ class Script:
         self.tokens += 1
         return self.tokens
 
-    def propose(self, node, number, amount):
-        """The group's leader is to add an amount."""
-        data = int(amount).to_bytes(8, "big")
+    def propose(self, node, number, *words):
+        """The group's leader is to take the command of these words."""
+        data = self.machine.command(*words)
         return self.call(node, number, "propose", data, self.next_token())
 
     def addr(self, node, number, named, address):
@@ -288,7 +281,7 @@ class Script:
             return "none"
         applied = member.up.applied
         held = member.stored().held()
-        total = total_of(held[: 0 if applied is None else applied + 1])
+        total, _ = run(Adding, held[: 0 if applied is None else applied + 1])
         return f"total {total} at {'-' if applied is None else applied}"
 
     # ---- lines
@@ -296,8 +289,9 @@ class Script:
     def answer(self, line):
         """The answer to a line."""
         verb, *words = line.split(" ")
-        if verb == "nodes":
+        if verb in ("nodes", "kv"):
             self.ids = tuple(range(1, int(words[0]) + 1))
+            self.machine = Keys if verb == "kv" else Adding
             return "ok"
         if verb == "now":
             self.now = int(words[0])
@@ -306,6 +300,8 @@ class Script:
             return self.fuse(words[0], " ".join(words[1:]))
         if verb in ("deliver", "clean", "crash", "reopen", "total"):
             return getattr(self, verb)(*words)
+        if verb in Keys.verbs:
+            return self.propose(int(words[0]), int(words[1]), verb, *words[2:])
         calls = {
             "elect": lambda node, number: self.call(node, number, "elect"),
             "heartbeat": lambda node, number: self.call(node, number, "beat"),

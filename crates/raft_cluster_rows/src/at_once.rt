@@ -3,6 +3,7 @@
 use crate::toy_node::ToyNode;
 use raft_cluster::{Cluster, ClusterEvent, ClusterRefusal, EventOutcome, Recorded};
 use raft_cluster_script::event_of;
+use raft_machines::AddingMachine;
 use raft_rows::number;
 use raft_script_lines::{ScriptLine, read_line};
 use std::alloc::{AllocError, Global};
@@ -21,7 +22,7 @@ fn event(alloc: Global, line: &str) -> Result<Option<ClusterEvent>, AllocError> 
         Some(("fuse", node)) => Ok(Some(fuse(node, Some(1)))),
         Some(("lift", node)) => Ok(Some(fuse(node, None))),
         _ => match read_line(alloc, line.as_bytes()) {
-            Ok(ScriptLine::Happens(event)) => event_of(alloc, 0, 0, event),
+            Ok(ScriptLine::Happens(event)) => event_of::<AddingMachine>(alloc, 0, 0, event),
             _ => Ok(None),
         },
     }

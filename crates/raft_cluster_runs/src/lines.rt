@@ -1,8 +1,9 @@
 //! Events by the lines of a script, and what came of them.
 
 use raft_cluster_events::{ClusterEvent, ClusterNode, Recorded};
-use raft_cluster_script::{event_of, outcome_text};
+use raft_cluster_script::{event_of, outcome_text, tokens_after};
 use raft_listed_cluster::ListedCluster;
+use raft_machines::AddingMachine;
 use raft_script_lines::{ReadLineError, ScriptEvent, ScriptLine, read_line};
 use std::alloc::{AllocError, Global};
 
@@ -12,14 +13,6 @@ pub struct Lines {
     alloc: Global,
     pub tokens: u64,
     tick: u64,
-}
-
-// Whether a line takes a token.
-fn has_token(event: &ScriptEvent) -> bool {
-    matches!(
-        event,
-        ScriptEvent::Propose { .. } | ScriptEvent::Addr { .. } | ScriptEvent::Voters { .. }
-    )
 }
 
 // The node's files refuse that changing call and those behind it; with none they refuse no call.
@@ -64,10 +57,9 @@ impl Lines {
         calls: Option<u64>,
         event: ScriptEvent,
     ) -> Result<(), AllocError> {
-        if has_token(&event) {
-            self.tokens = self.tokens.saturating_add(1);
-        }
-        match (event_of(self.alloc, self.tick, self.tokens, event)?, calls) {
+        self.tokens = tokens_after(self.tokens, &event);
+        let event = event_of::<AddingMachine>(self.alloc, self.tick, self.tokens, event)?;
+        match (event, calls) {
             (Some(event), Some(calls)) => push_fused(cluster, events, calls, event),
             (Some(event), None) => {
                 events.push(event)?;
@@ -121,7 +113,7 @@ pub fn outcomes_text(alloc: Global, records: &[Recorded]) -> Result<String, Allo
     let mut text = String::new(alloc);
     for recorded in records {
         text.push_str(if text.is_empty() { "" } else { "; " })?;
-        let outcome = outcome_text(alloc, &recorded.outcome)?;
+        let outcome = outcome_text::<AddingMachine>(alloc, &recorded.outcome)?;
         text.push_str(outcome.trim_end())?;
     }
     Ok(text)

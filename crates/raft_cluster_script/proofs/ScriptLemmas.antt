@@ -6,6 +6,7 @@ use Rattle.raft_cluster_events.specs.declared.outcome.Recorded.{Recorded}
 use Rattle.raft_cluster_events.specs.Node.{NodeActs}
 use Rattle.raft_cluster.specs.Cluster.{ClusterValue, Steps}
 use Rattle.raft_cluster.proofs.FusedLemmas.{outcome_there}
+use Rattle.raft_script_machines.specs.Speech.{Speech}
 use Rattle.raft_cluster_script.specs.Answers.{outcome_text}
 use Rattle.raft_cluster_script.specs.Script.{StepsSo}
 
@@ -23,8 +24,8 @@ more_named f g old new x ids i inside h pushed same =
     ∙ sym (map-append g (take i ids) (get_or ids i 0 ∷ []))
     ∙ ap (map g) (sym (take_more ids i 0 inside))
 
-module _ {N : Type 0} (acts : NodeActs N) where
-  pub shows_step : {X E : Type 0} (r : Result X E) (bytes : X → List ℕ) (old new : ClusterValue N) (event : ClusterEvent) (steps : Steps acts old event new) (d : Recorded) (all : List Recorded) (at : ℕ) → all ≡ new.history → at ≡ length old.history → IfOk r (λ x. bytes x ≡ outcome_text (get_or all at d).outcome) → IfOk r (λ x. StepsSo acts old event (bytes x) new)
+module _ {N : Type 0} (acts : NodeActs N) (speech : Speech) where
+  pub shows_step : {X E : Type 0} (r : Result X E) (bytes : X → List ℕ) (old new : ClusterValue N) (event : ClusterEvent) (steps : Steps acts old event new) (d : Recorded) (all : List Recorded) (at : ℕ) → all ≡ new.history → at ≡ length old.history → IfOk r (λ x. bytes x ≡ outcome_text speech.shows (get_or all at d).outcome) → IfOk r (λ x. StepsSo acts speech old event (bytes x) new)
   shows_step (Ok x) bytes old new event steps d all at whole place text =
-      record { steps = steps; text = text ∙ ap outcome_text (outcome_there acts old new event steps d all at whole place) }
+      record { steps = steps; text = text ∙ ap (outcome_text speech.shows) (outcome_there acts old new event steps d all at whole place) }
   shows_step (Err e) bytes old new event steps d all at whole place text = tt

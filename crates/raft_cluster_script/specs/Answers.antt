@@ -1,10 +1,9 @@
 -- The text of what came of an event.
-use Rattle.std.specs.Prelude.{ℕ, ◌==◌, nat_lt, not, List, [], ◌++◌, filter, length, map, Option, Some, None, if◌then◌else◌}
+use Rattle.std.specs.Prelude.{ℕ, nat_lt, not, List, [], ◌++◌, filter, map, Option, Some, None, if◌then◌else◌}
 use Rattle.std.specs.List.{flat_map}
 use Rattle.raft_machines.specs.declared.telling.Told.{Told}
 use Rattle.raft_machines.specs.declared.telling.UnknownTokens.{UnknownTokens}
 use Rattle.raft_machines.specs.declared.telling.Untold.{Untold}
-use Rattle.raft_machines.specs.Adding.{total_of}
 use Rattle.raft_sent_frames.specs.declared.frame.SentNumber.{SentNumber}
 use Rattle.raft_cluster_conditions.specs.declared.reasons.ClusterRefusal.{ClusterRefusal}
 use Rattle.raft_cluster_conditions.specs.declared.reasons.ClusterRefusal.TheVariants as cluster
@@ -18,16 +17,8 @@ use Rattle.raft_cluster_events.specs.declared.outcome.Unsaid.{Unsaid}
 use Rattle.raft_cluster.specs.Fused.{is_cut}
 use Rattle.raft_script_answers.specs.declared.refusal.Refusal.{Refusal}
 use Rattle.raft_script_answers.specs.declared.refusal.Refusal.TheVariants as shown
-use Rattle.raft_script_answers.specs.declared.told_total.SentNumber.{SentNumber as ShownNumber}
-use Rattle.raft_script_answers.specs.declared.told_total.ToldTotal.{ToldTotal}
+use Rattle.raft_script_answers.specs.declared.shown.SentNumber.{SentNumber as ShownNumber}
 use Rattle.raft_script_answers.specs.Answer.{done_text, refused_text, stopped_text}
-
--- an answer of 8 bytes is a total
-abbrev pub value_of : List ℕ → Option ℕ
-value_of answer = if length answer == 8 then Some (total_of answer) else None
-
-abbrev pub told_total : Told → ToldTotal
-told_total told = record { token = told.token; place = told.place; total = value_of told.answer }
 
 abbrev pub shown_number : SentNumber → ShownNumber
 shown_number sent = record { peer = sent.peer; number = sent.number }
@@ -35,8 +26,9 @@ shown_number sent = record { peer = sent.peer; number = sent.number }
 abbrev pub numbers_of : List GroupOutcome → List ShownNumber
 numbers_of parts = flat_map (λ (part : GroupOutcome). map shown_number part.sent) parts
 
-abbrev pub totals_of : List GroupOutcome → List ToldTotal
-totals_of parts = flat_map (λ (part : GroupOutcome). map told_total part.told) parts
+-- what is told in all groups, as the machine shows it
+abbrev pub told_of : (Told → List ℕ) → List GroupOutcome → List ℕ
+told_of shows parts = flat_map (λ (part : GroupOutcome). flat_map shows part.told) parts
 
 abbrev pub unknown_of : List GroupOutcome → List ℕ
 unknown_of parts = flat_map (λ (part : GroupOutcome). part.unknown) parts
@@ -90,14 +82,19 @@ refusal_of_cluster cluster.ByChance = shown.ByChance
 refusal_of_cluster cluster.NotAnImage = shown.NotAnImage
 refusal_of_cluster cluster.BadCut = shown.BadCut
 
--- frames of all groups first, then what is told, then the unknown tokens; of a cleaning the groups that hold old files back
-abbrev pub outcome_text : EventOutcome → List ℕ
-outcome_text (outcomes.Done parts) = done_text (numbers_of parts) (totals_of parts) (unknown_of parts) []
-outcome_text (outcomes.Cleaned groups) = done_text [] [] [] groups
-outcome_text (outcomes.Refused why) = refused_text (refusal_of_node why) []
-outcome_text (outcomes.Stopped stop) = refused_text shown.Stopped (tokens_of_stop stop)
-outcome_text (outcomes.TurnedAway why) = refused_text (refusal_of_cluster why) []
+-- a stop, with the tokens that it leaves unknown
+abbrev pub stop_text : Stop → List ℕ
+stop_text stop = refused_text shown.Stopped (tokens_of_stop stop)
 
--- behind a fuse: a machine that stopped inside the event tells nobody
-abbrev pub fused_text : EventOutcome → List ℕ
-fused_text outcome = if is_cut outcome then stopped_text else outcome_text outcome
+module _ (shows : Told → List ℕ) where
+  -- frames of all groups first, then what is told, then the unknown tokens; of a cleaning the groups that hold old files back
+  abbrev pub outcome_text : EventOutcome → List ℕ
+  outcome_text (outcomes.Done parts) = done_text (numbers_of parts) (told_of shows parts) (unknown_of parts) []
+  outcome_text (outcomes.Cleaned groups) = done_text [] [] [] groups
+  outcome_text (outcomes.Refused why) = refused_text (refusal_of_node why) []
+  outcome_text (outcomes.Stopped stop) = stop_text stop
+  outcome_text (outcomes.TurnedAway why) = refused_text (refusal_of_cluster why) []
+
+  -- behind a fuse: a machine that stopped inside the event tells nobody
+  abbrev pub fused_text : EventOutcome → List ℕ
+  fused_text outcome = if is_cut outcome then stopped_text else outcome_text outcome

@@ -1,7 +1,6 @@
 -- The events of a cluster that lines name.
 use Rattle.std.specs.Prelude.{ℕ, Bool, true, false, ◌+◌, ◌-◌, ◌^◌, min, nat_eq, List, [], ◌∷◌, ◌++◌, map, Option, Some, None, codes}
 use Rattle.std.specs.Fmt.{decimal}
-use Rattle.std.specs.Int.{w64, to_be_bytes}
 use Rattle.std.specs.Ordering.{nat_cmp}
 use Rattle.std.specs.Str.{is_utf8}
 use Rattle.raft_quorums.specs.Quorum.{rising_ids}
@@ -47,31 +46,50 @@ abbrev pub asked_at : ℕ → ℕ → ℕ → Option GroupCall → Option Cluste
 asked_at node group now None = None
 asked_at node group now (Some call) = Some (events.Ask node group call now)
 
--- the event that a line names, at a moment and where the line's token is this one
-abbrev pub event_of : ℕ → ℕ → ScriptEvent → Option ClusterEvent
-event_of now token (said.Add node group) = Some (events.AddGroup node group)
-event_of now token (said.Init node group voters learners) =
+-- a command is proposed, where the machine has one in these words
+abbrev pub proposed_at : ℕ → ℕ → ℕ → ℕ → Option (List ℕ) → Option ClusterEvent
+proposed_at node group now token None = None
+proposed_at node group now token (Some command) = Some (events.Ask node group (calls.Propose command token) now)
+
+-- what a line asks of a node's group, other than to run a command
+abbrev pub asked_by : ℕ → ℕ → ScriptEvent → Option ClusterEvent
+asked_by now token (said.Init node group voters learners) =
     Some (events.Ask node group (calls.Initialize (membership_of voters learners)) now)
-event_of now token (said.Propose node group amount) =
-    Some (events.Ask node group (calls.Propose (to_be_bytes w64 amount) token) now)
-event_of now token (said.Elect node group) = Some (events.Ask node group calls.Elect now)
-event_of now token (said.Heartbeat node group) = Some (events.Ask node group calls.Heartbeat now)
-event_of now token (said.Lost node group peer) = Some (events.Ask node group (calls.Lost peer) now)
-event_of now token (said.Snapshot node group) = Some (events.Ask node group calls.TriggerSnapshot now)
-event_of now token (said.Purge node group index) = Some (events.Ask node group (calls.TriggerPurge index) now)
-event_of now token (said.Addr node group id address) = asked_at node group now (change_if (is_utf8 address) id address token)
-event_of now token (said.Voters node group ids) =
+asked_by now token (said.Elect node group) = Some (events.Ask node group calls.Elect now)
+asked_by now token (said.Heartbeat node group) = Some (events.Ask node group calls.Heartbeat now)
+asked_by now token (said.Lost node group peer) = Some (events.Ask node group (calls.Lost peer) now)
+asked_by now token (said.Snapshot node group) = Some (events.Ask node group calls.TriggerSnapshot now)
+asked_by now token (said.Purge node group index) = Some (events.Ask node group (calls.TriggerPurge index) now)
+asked_by now token (said.Addr node group id address) = asked_at node group now (change_if (is_utf8 address) id address token)
+asked_by now token (said.Voters node group ids) =
     Some (events.Ask node group (calls.ChangeMembership (AddVoterIds (rising_ids nat_cmp ids)) token) now)
-event_of now token (said.Deliver group number cut) = Some (events.Deliver group number (cuts_at cut) now)
-event_of now token (said.Clean node) = Some (events.Clean node)
-event_of now token (said.Crash node choice) = Some (events.Crash node (choice_of choice))
-event_of now token (said.Reopen node workers) = Some (events.Reopen node workers)
+asked_by now token _ = None
+
+-- the event that a line names, at a moment and where the line's token is this one
+abbrev pub event_by : Option (List ℕ) → ℕ → ℕ → ScriptEvent → Option ClusterEvent
+event_by command now token (said.Add node group) = Some (events.AddGroup node group)
+event_by command now token (said.Propose node group amount) = proposed_at node group now token command
+event_by command now token (said.Put node group key value) = proposed_at node group now token command
+event_by command now token (said.Get node group key) = proposed_at node group now token command
+event_by command now token (said.Drop node group key) = proposed_at node group now token command
+event_by command now token (said.Deliver group number cut) = Some (events.Deliver group number (cuts_at cut) now)
+event_by command now token (said.Clean node) = Some (events.Clean node)
+event_by command now token (said.Crash node choice) = Some (events.Crash node (choice_of choice))
+event_by command now token (said.Reopen node workers) = Some (events.Reopen node workers)
+event_by command now token event = asked_by now token event
+
+-- the command that it proposes is in the machine's words
+abbrev pub event_of : (ScriptEvent → Option (List ℕ)) → ℕ → ℕ → ScriptEvent → Option ClusterEvent
+event_of proposes now token event = event_by (proposes event) now token event
 
 -- the line takes a token
 abbrev pub has_token : ScriptEvent → Bool
 has_token (said.Add node group) = false
 has_token (said.Init node group voters learners) = false
 has_token (said.Propose node group amount) = true
+has_token (said.Put node group key value) = true
+has_token (said.Get node group key) = true
+has_token (said.Drop node group key) = true
 has_token (said.Elect node group) = false
 has_token (said.Heartbeat node group) = false
 has_token (said.Lost node group peer) = false

@@ -1,40 +1,20 @@
 //! The text of what came of an event.
 ghost use Rattle.std.specs.Prelude.{◌≡◌, ◌++◌, [], IfOk, OnOk, map, option_map, string_bytes};
-ghost use Rattle.raft_cluster_script.specs.Answers.{numbers_of, outcome_text, refusal_of_cluster, refusal_of_node, shown_number, told_total, tokens_of_stop, totals_of, unknown_of, value_of};
-ghost use Rattle.raft_cluster_script.specs.Script.{total_at, total_in};
+ghost use Rattle.raft_cluster_script.specs.Answers.{numbers_of, outcome_text, refusal_of_cluster, refusal_of_node, shown_number, stop_text, told_of, unknown_of};
+ghost use Rattle.raft_cluster_script.specs.Script.{total_at, total_in, with_place};
+ghost use Rattle.std.specs.List.{flat_map};
 ghost use Rattle.std.specs.Option.{option_copied};
-ghost use Rattle.raft_machines.specs.Adding.{state_of_total, total_of};
-ghost use Rattle.raft_script_answers.specs.Answer.{done_text, refused_text, total_text};
+ghost use Rattle.raft_script_answers.specs.Answer.{done_text, total_text};
 
 use crate::stops::tokens_of_stop;
 use raft_cluster_conditions::ClusterRefusal;
 use raft_cluster_events::{ClusterNode, EventOutcome, GroupOutcome, NodeRefusal, SentNumber, Stop};
-use raft_machines::{AddingMachine, Told};
+use raft_machines::Told;
 use raft_script_answers::{
-    AppliedTotal, Refusal, SentNumber as ShownNumber, ToldTotal, done_text, refused_text,
-    total_text,
+    AppliedTotal, Refusal, SentNumber as ShownNumber, done_text, refused_text, total_text,
 };
+use raft_script_machines::ScriptMachine;
 use std::alloc::{AllocError, Global};
-
-// The total that an answer of 8 bytes is, the greatest byte first.
-fn value_of(answer: &[u8]) -> Option<u64>
-    ensures { result ≡ value_of answer.now }
-{
-    match <[u8; 8]>::try_from(answer) {
-        Ok(bytes) => Some(u64::from_be_bytes(bytes)),
-        Err(_) => None,
-    }
-}
-
-fn told_total(told: &Told) -> ToldTotal
-    ensures { result ≡ told_total told.now }
-{
-    ToldTotal {
-        token: told.token,
-        place: told.place,
-        total: value_of(told.answer.as_slice()),
-    }
-}
 
 // The numbers behind the others.
 fn push_numbers(all: &mut Vec<ShownNumber>, numbers: &[SentNumber]) -> Result<(), AllocError>
@@ -49,12 +29,12 @@ fn push_numbers(all: &mut Vec<ShownNumber>, numbers: &[SentNumber]) -> Result<()
     Ok(())
 }
 
-// The totals behind the others.
-fn push_totals(all: &mut Vec<ToldTotal>, told: &[Told]) -> Result<(), AllocError>
-    ensures { OnOk result (all.new.items ≡ all.old.items ++ map told_total told.now) }
+// The text, and what is told behind it.
+fn push_told<M: ScriptMachine>(text: &mut String, told: &[Told]) -> Result<(), AllocError>
+    ensures { OnOk result (string_bytes text.new ≡ string_bytes text.old ++ flat_map M.speech.shows told.now) }
 {
     for one in told {
-        all.push(told_total(one))?;
+        M::push_told(text, one)?;
     }
     Ok(())
 }
@@ -71,14 +51,14 @@ fn numbers_of(alloc: Global, parts: &[GroupOutcome]) -> Result<Vec<ShownNumber>,
 }
 
 // What was told in all groups.
-fn totals_of(alloc: Global, parts: &[GroupOutcome]) -> Result<Vec<ToldTotal>, AllocError>
-    ensures { IfOk result (λ all. all.items ≡ totals_of parts.now) }
+fn told_of<M: ScriptMachine>(alloc: Global, parts: &[GroupOutcome]) -> Result<String, AllocError>
+    ensures { IfOk result (λ text. string_bytes text ≡ told_of M.speech.shows parts.now) }
 {
-    let mut all = Vec::new(alloc);
+    let mut text = String::new(alloc);
     for part in parts {
-        push_totals(&mut all, part.told.as_slice())?;
+        push_told::<M>(&mut text, part.told.as_slice())?;
     }
-    Ok(all)
+    Ok(text)
 }
 
 // The unknown tokens of all groups.
@@ -132,35 +112,39 @@ fn refusal_of_cluster(why: ClusterRefusal) -> Refusal
 }
 
 // What an event did in its groups.
-fn parts_text(alloc: Global, parts: &[GroupOutcome]) -> Result<String, AllocError>
-    ensures { IfOk result (λ text. string_bytes text ≡ done_text (numbers_of parts.now) (totals_of parts.now) (unknown_of parts.now) []) }
+fn parts_text<M: ScriptMachine>(alloc: Global, parts: &[GroupOutcome]) -> Result<String, AllocError>
+    ensures { IfOk result (λ text. string_bytes text ≡ done_text (numbers_of parts.now) (told_of M.speech.shows parts.now) (unknown_of parts.now) []) }
 {
     let sent = numbers_of(alloc, parts)?;
-    let told = totals_of(alloc, parts)?;
+    let told = told_of::<M>(alloc, parts)?;
     let unknown = unknown_of(alloc, parts)?;
     done_text(
         alloc,
         sent.as_slice(),
-        told.as_slice(),
+        told.as_str(),
         unknown.as_slice(),
         &[],
     )
 }
 
-fn stop_text(alloc: Global, stop: &Stop) -> Result<String, AllocError>
-    ensures { IfOk result (λ text. string_bytes text ≡ refused_text Refusal.Stopped (tokens_of_stop stop.now)) }
+/// A stop, with the tokens that it leaves unknown (own).
+pub fn stop_text(alloc: Global, stop: &Stop) -> Result<String, AllocError>
+    ensures { IfOk result (λ text. string_bytes text ≡ stop_text stop.now) }
 {
     let tokens = tokens_of_stop(alloc, stop)?;
     refused_text(alloc, Refusal::Stopped, tokens.as_slice())
 }
 
-/// What came of an event.
-pub fn outcome_text(alloc: Global, outcome: &EventOutcome) -> Result<String, AllocError>
-    ensures { IfOk result (λ text. string_bytes text ≡ outcome_text outcome.now) }
+/// What came of an event of nodes with this machine (own).
+pub fn outcome_text<M: ScriptMachine>(
+    alloc: Global,
+    outcome: &EventOutcome,
+) -> Result<String, AllocError>
+    ensures { IfOk result (λ text. string_bytes text ≡ outcome_text M.speech.shows outcome.now) }
 {
     match outcome {
-        EventOutcome::Done(parts) => parts_text(alloc, parts.as_slice()),
-        EventOutcome::Cleaned(groups) => done_text(alloc, &[], &[], &[], groups.as_slice()),
+        EventOutcome::Done(parts) => parts_text::<M>(alloc, parts.as_slice()),
+        EventOutcome::Cleaned(groups) => done_text(alloc, &[], "", &[], groups.as_slice()),
         EventOutcome::Refused(why) => refused_text(alloc, refusal_of_node(*why), &[]),
         EventOutcome::Stopped(stop) => stop_text(alloc, stop),
         EventOutcome::TurnedAway(why) => refused_text(alloc, refusal_of_cluster(*why), &[]),
@@ -168,28 +152,30 @@ pub fn outcome_text(alloc: Global, outcome: &EventOutcome) -> Result<String, All
 }
 
 // The total, with the last place that is in it.
-fn applied_total(total: u64, place: Option<u64>) -> AppliedTotal
-    ensures { result ≡ record { total = total_of (state_of_total total); place = place } }
+fn with_place(total: Option<u64>, place: Option<u64>) -> Option<AppliedTotal>
+    ensures { result ≡ with_place place total }
 {
-    AppliedTotal { total, place }
+    match total {
+        Some(total) => Some(AppliedTotal { total, place }),
+        None => None,
+    }
 }
 
 // The total of a machine that is lent, if one is.
-fn total_in(place: Option<u64>, machine: Option<&AddingMachine>) -> Option<AppliedTotal>
-    ensures { result ≡ total_in place (option_map state_of_total (option_copied machine.entry)) }
+fn total_in<M: ScriptMachine>(place: Option<u64>, machine: Option<&M>) -> Option<AppliedTotal>
+    ensures { result ≡ total_in M.speech.totals place (option_map M.state (option_copied machine.entry)) }
 {
     match machine {
-        Some(machine) => Some(applied_total(machine.total(), place)),
+        Some(machine) => with_place(machine.total_of(), place),
         None => None,
     }
 }
 
 // The total of a group at a node, if there is one.
-fn total_of<N: ClusterNode<Machine = AddingMachine>>(
-    node: Option<&N>,
-    group: u64,
-) -> Option<AppliedTotal>
-    ensures { result ≡ total_at N.acts (option_copied node.entry) group }
+fn total_of<N: ClusterNode>(node: Option<&N>, group: u64) -> Option<AppliedTotal>
+where
+    N::Machine: ScriptMachine,
+    ensures { result ≡ total_at N.acts N.Machine.speech (option_copied node.entry) group }
 {
     match node {
         Some(node) => total_in(node.applied(group), node.machine(group)),
@@ -198,12 +184,14 @@ fn total_of<N: ClusterNode<Machine = AddingMachine>>(
 }
 
 /// The text of the total of a group at a node.
-pub fn total_at<N: ClusterNode<Machine = AddingMachine>>(
+pub fn total_at<N: ClusterNode>(
     alloc: Global,
     node: Option<&N>,
     group: u64,
 ) -> Result<String, AllocError>
-    ensures { IfOk result (λ text. string_bytes text ≡ total_text (total_at N.acts (option_copied node.entry) group)) }
+where
+    N::Machine: ScriptMachine,
+    ensures { IfOk result (λ text. string_bytes text ≡ total_text (total_at N.acts N.Machine.speech (option_copied node.entry) group)) }
 {
     let total = total_of(node, group);
     total_text(alloc, total)

@@ -1,15 +1,15 @@
 //! The events of a cluster that lines name.
 ghost use Rattle.std.specs.Prelude.{◌≡◌, ℕ, List, IfOk, Some, map, nat_eq, [], ◌++◌, ◌∷◌, OnOk};
-ghost use Rattle.std.specs.Int.{w64, to_be_bytes};
 ghost use Rattle.std.specs.Ordering.{nat_cmp};
 ghost use Rattle.std.specs.String.{string_bytes};
 ghost use Rattle.raft_quorums.specs.Quorum.{rising_ids};
 ghost use Rattle.std.specs.Str.{is_utf8};
-ghost use Rattle.raft_cluster_script.specs.Calls.{asked_at, change_if, choice_of, cuts_at, event_of, has_token, membership_of, tokens_after, with_address, with_addresses};
+ghost use Rattle.raft_cluster_script.specs.Calls.{asked_at, asked_by, change_if, choice_of, cuts_at, event_of, has_token, membership_of, proposed_at, tokens_after, with_address, with_addresses};
 
 use raft_cluster_events::{ClusterEvent, CrashChoice, GroupCommand, Sequence};
 use raft_group_step::GroupCall;
 use raft_script_lines::{CrashChoice as LineChoice, IdList, ScriptEvent};
+use raft_script_machines::ScriptMachine;
 use raft_state::{BasicNode, Bytes, ChangeMembers, IdSet, Membership, NodeMap};
 use std::alloc::{AllocError, Global};
 use std::str;
@@ -83,14 +83,6 @@ fn change_of(
     Ok(Some(GroupCall::ChangeMembership { change, token }))
 }
 
-// The call that adds this amount.
-fn propose(alloc: Global, amount: u64, token: u64) -> Result<GroupCommand, AllocError>
-    ensures { IfOk result (λ call. call ≡ GroupCall.Propose (to_be_bytes w64 amount) token) }
-{
-    let command = Bytes::from_slice(alloc, &amount.to_be_bytes())?;
-    Ok(GroupCall::Propose { command, token })
-}
-
 // The call that makes these voters too.
 fn more_voters(alloc: Global, ids: &IdList, token: u64) -> Result<GroupCommand, AllocError>
     ensures { IfOk result (λ call. call ≡ GroupCall.ChangeMembership (ChangeMembers.AddVoterIds (rising_ids nat_cmp ids.now)) token) }
@@ -124,6 +116,7 @@ fn has_token(event: &ScriptEvent) -> bool
 {
     match event {
         ScriptEvent::Propose { .. } | ScriptEvent::Addr { .. } | ScriptEvent::Voters { .. } => true,
+        ScriptEvent::Put { .. } | ScriptEvent::Get { .. } | ScriptEvent::Drop { .. } => true,
         _ => false,
     }
 }
@@ -149,6 +142,22 @@ fn ask(now: u64, node: u64, group: u64, call: GroupCommand) -> Option<ClusterEve
         call,
         now,
     })
+}
+
+// A command is proposed, where there is one.
+fn proposed_at(
+    now: u64,
+    token: u64,
+    node: u64,
+    group: u64,
+    command: Option<Bytes>,
+) -> Option<ClusterEvent>
+    ensures { result ≡ proposed_at node group now token command }
+{
+    match command {
+        Some(command) => ask(now, node, group, GroupCall::Propose { command, token }),
+        None => None,
+    }
 }
 
 // A set-up.
@@ -209,29 +218,22 @@ fn crash_of(node: u64, choice: LineChoice) -> Option<ClusterEvent>
     Some(ClusterEvent::Crash { node, choice })
 }
 
-/// The event that a line names, at a moment and where the line's token is this one; none where an
-/// address is no text (own).
-pub fn event_of(
+// What a line asks of a node's group, other than to run a command.
+fn asked_of(
     alloc: Global,
     now: u64,
     token: u64,
     event: ScriptEvent,
 ) -> Result<Option<ClusterEvent>, AllocError>
-    ensures { IfOk result (λ e. e ≡ event_of now token event) }
+    ensures { IfOk result (λ e. e ≡ asked_by now token event) }
 {
     match event {
-        ScriptEvent::Add { node, group } => Ok(Some(ClusterEvent::AddGroup { node, group })),
         ScriptEvent::Init {
             node,
             group,
             voters,
             learners,
         } => init_of(alloc, now, node, group, (voters, learners)),
-        ScriptEvent::Propose {
-            node,
-            group,
-            amount,
-        } => Ok(ask(now, node, group, propose(alloc, amount, token)?)),
         ScriptEvent::Elect { node, group } => Ok(ask(now, node, group, GroupCall::Elect)),
         ScriptEvent::Heartbeat { node, group } => Ok(ask(now, node, group, GroupCall::Heartbeat)),
         ScriptEvent::Lost { node, group, peer } => {
@@ -252,9 +254,33 @@ pub fn event_of(
         ScriptEvent::Voters { node, group, ids } => {
             Ok(ask(now, node, group, more_voters(alloc, &ids, token)?))
         }
+        _ => Ok(None),
+    }
+}
+
+/// The event that a line names, at a moment and where the line's token is this one (own); none where
+/// an address is no text, or the machine has no such command.
+pub fn event_of<M: ScriptMachine>(
+    alloc: Global,
+    now: u64,
+    token: u64,
+    event: ScriptEvent,
+) -> Result<Option<ClusterEvent>, AllocError>
+    ensures { IfOk result (λ e. e ≡ event_of M.speech.proposes now token event) }
+{
+    let command = M::command_of(alloc, &event)?;
+    match event {
+        ScriptEvent::Add { node, group } => Ok(Some(ClusterEvent::AddGroup { node, group })),
+        ScriptEvent::Propose { node, group, .. }
+        | ScriptEvent::Put { node, group, .. }
+        | ScriptEvent::Get { node, group, .. }
+        | ScriptEvent::Drop { node, group, .. } => {
+            Ok(proposed_at(now, token, node, group, command))
+        }
         ScriptEvent::Deliver { group, number, cut } => delivery_of(alloc, now, group, number, cut),
         ScriptEvent::Clean { node } => Ok(Some(ClusterEvent::Clean { node })),
         ScriptEvent::Crash { node, choice } => Ok(crash_of(node, choice)),
         ScriptEvent::Reopen { node, workers } => Ok(Some(ClusterEvent::Reopen { node, workers })),
+        event => asked_of(alloc, now, token, event),
     }
 }

@@ -6,8 +6,8 @@ ghost use Rattle.raft_cluster_script.specs.Script.{FusedSo};
 use crate::answers::outcome_text;
 use raft_cluster::Cluster;
 use raft_cluster_events::{ClusterEvent, ClusterNode, CrashChoice};
-use raft_machines::AddingMachine;
 use raft_script_answers::stopped_text;
+use raft_script_machines::ScriptMachine;
 use std::alloc::{AllocError, Global};
 use std::thread::Threads;
 
@@ -25,14 +25,16 @@ fn place_behind(node: Option<u64>, before: usize) -> usize
 /// The node's files refuse each changing call from this one on until the event is over, and it is
 /// answered by the text of its outcome. Where it was cut off the node's machine stops, and leaves
 /// what was synced. An event for no node has no fuse.
-pub fn happen_fused<N: ClusterNode<Machine = AddingMachine>, R: Threads + Sync>(
+pub fn happen_fused<N: ClusterNode, R: Threads + Sync>(
     rt: &R,
     alloc: Global,
     cluster: &mut Cluster<N>,
     first: u64,
     event: ClusterEvent,
 ) -> Result<String, AllocError>
-    ensures { IfOk result (λ text. FusedSo N.acts first cluster.old event (string_bytes text) cluster.new) }
+where
+    N::Machine: ScriptMachine,
+    ensures { IfOk result (λ text. FusedSo N.acts N.Machine.speech first cluster.old event (string_bytes text) cluster.new) }
 {
     let node = cluster.node_of(&event);
     let before = cluster.history().len();
@@ -42,5 +44,5 @@ pub fn happen_fused<N: ClusterNode<Machine = AddingMachine>, R: Threads + Sync>(
     }
     let history = cluster.history();
     let at = place_behind(node, before);
-    outcome_text(alloc, &history[at].outcome)
+    outcome_text::<N::Machine>(alloc, &history[at].outcome)
 }

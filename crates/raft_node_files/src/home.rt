@@ -4,23 +4,26 @@ use raft_host_log::{HostFiles, HostLog};
 use raft_log_engine::{EngineFault, NotOpened};
 use raft_log_files::{Config, Error};
 use raft_log_host::{HostFileSystem, OpenError};
-use raft_machines::AddingMachine;
 use raft_node_script::{HomeRefusal, NodeHome};
+use raft_script_machines::ScriptMachine;
 use raft_store::Store;
+use std::marker::PhantomData;
 use std::thread::Threads;
 
-/// The directory of a node (own).
+/// The directory of a node whose groups have such machines (own).
 #[derive(Drop)]
-pub struct DiskHome {
+pub struct DiskHome<M: ScriptMachine> {
     /// Reaches the system.
     pub rt: HostRuntime,
     /// The node's id: the directory belongs to it alone.
     pub id: u64,
     /// The settings of its log. Its files lie in the main directory.
     pub settings: Config,
+    /// Its machines.
+    pub of: PhantomData<M>,
 }
 
-impl DiskHome {
+impl<M: ScriptMachine> DiskHome<M> {
     // Says on standard error why the system refused a call of these files, if it did.
     fn complain_of(&self, files: &HostFileSystem) {
         let directory = self.settings.dir.as_str();
@@ -63,8 +66,10 @@ fn refusal_of_log(fault: &EngineFault, files: &HostFileSystem) -> HomeRefusal {
     }
 }
 
-impl NodeHome for DiskHome {
-    type Storage = Store<AddingMachine, HostLog>;
+impl<M: ScriptMachine> NodeHome for DiskHome<M> {
+    type Machine = M;
+
+    type Storage = Store<M, HostLog>;
 
     fn open<R: Threads + Sync>(&mut self, rt: &R) -> Result<Self::Storage, HomeRefusal> {
         let alloc = self.rt.alloc();

@@ -4,26 +4,32 @@ ghost use Rattle.std.specs.Prelude.{◌≤◌, length};
 use crate::end::End;
 use raft_node_script::{NodeLineError, read_node_line};
 use raft_script_lines::{LONGEST_LINE, NoEvent};
+use raft_script_machines::ScriptMachine;
 use std::alloc::{AllocError, Global};
 use std::io::{self, BufRead, BufReader, Error, ErrorKind, Read};
+use std::marker::PhantomData;
 
 /// A line has at most so many bytes, with its newline.
 const MOST_BYTES: u64 = LONGEST_LINE as u64 + 1;
 
 // Why the script of this node takes no such line; none where it takes it.
-fn fault_of_line(alloc: Global, id: u64, line: &[u8]) -> Result<Option<NodeLineError>, AllocError> {
-    match read_node_line(alloc, id, 0, 0, line) {
+fn fault_of_line<M: ScriptMachine>(
+    alloc: Global,
+    id: u64,
+    line: &[u8],
+) -> Result<Option<NodeLineError>, AllocError> {
+    match read_node_line::<M>(alloc, id, 0, 0, line) {
         Ok(_) => Ok(None),
         Err(NodeLineError::Memory) => Err(AllocError),
         Err(why) => Ok(Some(why)),
     }
 }
 
-/// The lines of the input that the script of a node takes, one at each read (own). One that it
-/// doesn't take is told on standard error with its number, counted from 1. An empty line stands in
-/// its place: the script counts it, and passes it over.
+/// The lines of the input that the script of a node with such machines takes, one at each read (own).
+/// One that it doesn't take is told on standard error with its number, counted from 1. An empty line
+/// stands in its place: the script counts it, and passes it over.
 #[derive(Drop)]
-pub struct KnownLines<R: Read + Drop> {
+pub struct KnownLines<M: ScriptMachine, R: Read + Drop> {
     rt: HostRuntime,
     id: u64,
     input: BufReader<R>,
@@ -33,11 +39,12 @@ pub struct KnownLines<R: Read + Drop> {
     given: usize,
     /// How the program ends, where no more can be read.
     pub end: Option<End>,
+    of: PhantomData<M>,
 }
 
-impl<R: Read + Drop> KnownLines<R> {
+impl<M: ScriptMachine, R: Read + Drop> KnownLines<M, R> {
     /// The input of the script of the node with this id. The only error is want of memory.
-    pub fn new(rt: HostRuntime, id: u64, input: R) -> io::Result<KnownLines<R>> {
+    pub fn new(rt: HostRuntime, id: u64, input: R) -> io::Result<KnownLines<M, R>> {
         Ok(KnownLines {
             rt,
             id,
@@ -46,6 +53,7 @@ impl<R: Read + Drop> KnownLines<R> {
             line: Vec::new(rt.alloc()),
             given: 0,
             end: None,
+            of: PhantomData,
         })
     }
 
@@ -62,13 +70,13 @@ impl<R: Read + Drop> KnownLines<R> {
     // Why the script doesn't take the line. Of one that is too long the rest is passed over.
     fn fault(&mut self) -> io::Result<Option<NodeLineError>> {
         if let Some(line) = self.line.as_slice().strip_suffix(b"\n") {
-            return Ok(fault_of_line(self.rt.alloc(), self.id, line)?);
+            return Ok(fault_of_line::<M>(self.rt.alloc(), self.id, line)?);
         }
         if self.line.len() > LONGEST_LINE {
             self.input.skip_until(b'\n')?;
             return Ok(Some(NodeLineError::NoEvent(NoEvent::TooLong)));
         }
-        Ok(fault_of_line(self.rt.alloc(), self.id, self.line.as_slice())?)
+        Ok(fault_of_line::<M>(self.rt.alloc(), self.id, self.line.as_slice())?)
     }
 
     // The next line that is handed out; without a byte at the end of the input.
@@ -112,7 +120,7 @@ impl<R: Read + Drop> KnownLines<R> {
     }
 }
 
-impl<R: Read + Drop> Read for KnownLines<R> {
+impl<M: ScriptMachine, R: Read + Drop> Read for KnownLines<M, R> {
     fn read(&mut self, buf: &mut [u8]) -> io::Result<usize> {
         if self.given >= self.line.len() {
             if let Err(why) = self.read_line() {

@@ -13,18 +13,27 @@ use crate::end::{End, end_of_script};
 use home::DiskHome;
 use input::KnownLines;
 use output::Answers;
+use raft_kv::KvMachine;
 use raft_log_files::Config;
+use raft_machines::AddingMachine;
 use raft_node_script::{ScriptEnd, run_node_script};
 use raft_script_lines::number_of;
+use raft_script_machines::ScriptMachine;
 use settings::{SettingsFault, settings_in, settings_of_file};
-use std::env;
+use std::marker::PhantomData;
 use std::process::ExitCode;
 use std::thread::Threads;
+use std::{env, io};
 
-const USAGE: &str = "usage: raft_node_files DIRECTORY ID [SETTINGS]";
+const USAGE: &str = "usage: raft_node_files DIRECTORY ID [kv] [SETTINGS]";
+
+/// The word for nodes that keep values by keys.
+const KV: &str = "kv";
 
 const HELP: &str = "
 Runs node ID on the files of DIRECTORY, which is made if it isn't there.
+Its groups add up amounts. With `kv` they keep values by keys; the same
+directory is to be opened with the same machine each time.
 SETTINGS is a TOML file with settings of its log. Without one a file is
 full at 64 KiB, and the log is cleaned past 256 KiB.
 Each line of standard input is answered by a line; docs/SCRIPT.md has them.
@@ -50,12 +59,23 @@ fn complain_of(rt: HostRuntime, end: ScriptEnd) {
 }
 
 // The node's script runs with these settings. Its files are opened on threads.
-fn run<R: Threads + Sync>(threads: &R, rt: HostRuntime, id: u64, settings: Config) -> End {
-    let Ok(mut input) = KnownLines::new(rt, id, rt.stdin()) else {
+fn run<M: ScriptMachine, R: Threads + Sync>(
+    threads: &R,
+    rt: HostRuntime,
+    id: u64,
+    settings: Config,
+) -> End {
+    let input: io::Result<KnownLines<M, _>> = KnownLines::new(rt, id, rt.stdin());
+    let Ok(mut input) = input else {
         return End::Memory;
     };
     let mut output = Answers::new(rt, rt.stdout());
-    let home = DiskHome { rt, id, settings };
+    let home: DiskHome<M> = DiskHome {
+        rt,
+        id,
+        settings,
+        of: PhantomData,
+    };
     let end = run_node_script(threads, rt.alloc(), id, home, &mut input, &mut output);
     match (output.end, input.end) {
         (Some(end), _) => end,
@@ -89,8 +109,8 @@ fn refuse_settings(rt: HostRuntime, file: Option<&str>, why: &SettingsFault) -> 
     End::Settings
 }
 
-// A node on a directory, by settings of a file if there is one.
-fn run_in<R: Threads + Sync>(
+// A node with such machines on a directory, by settings of a file if there is one.
+fn run_in<M: ScriptMachine, R: Threads + Sync>(
     threads: &R,
     rt: HostRuntime,
     directory: &str,
@@ -102,7 +122,7 @@ fn run_in<R: Threads + Sync>(
         return End::Arguments;
     };
     match settings_at(rt, directory, file) {
-        Ok(settings) => run(threads, rt, id, settings),
+        Ok(settings) => run::<M, R>(threads, rt, id, settings),
         Err(why) => refuse_settings(rt, file, &why),
     }
 }
@@ -115,19 +135,38 @@ fn help(rt: HostRuntime) -> End {
     }
 }
 
+// The arguments are others.
+fn usage(rt: HostRuntime) -> End {
+    let _ = eprintln!(&rt; "{USAGE}");
+    End::Arguments
+}
+
+// A node with such machines. At most one word is left, the file of settings.
+fn run_with<M: ScriptMachine, R: Threads + Sync>(
+    threads: &R,
+    rt: HostRuntime,
+    directory: &str,
+    id: &str,
+    words: &[String],
+) -> End {
+    match words {
+        [] => run_in::<M, R>(threads, rt, directory, id, None),
+        [file] => run_in::<M, R>(threads, rt, directory, id, Some(file.as_str())),
+        _ => usage(rt),
+    }
+}
+
 // What the arguments ask for.
 fn run_words<R: Threads + Sync>(threads: &R, rt: HostRuntime, words: &[String]) -> End {
     match words {
         [_, word] if word.as_str() == "--help" => help(rt),
-        [_, directory, id] => run_in(threads, rt, directory.as_str(), id.as_str(), None),
-        [_, directory, id, file] => {
-            let file = Some(file.as_str());
-            run_in(threads, rt, directory.as_str(), id.as_str(), file)
+        [_, directory, id, word, left @ ..] if word.as_str() == KV => {
+            run_with::<KvMachine, R>(threads, rt, directory.as_str(), id.as_str(), left)
         }
-        _ => {
-            let _ = eprintln!(&rt; "{USAGE}");
-            End::Arguments
+        [_, directory, id, left @ ..] => {
+            run_with::<AddingMachine, R>(threads, rt, directory.as_str(), id.as_str(), left)
         }
+        _ => usage(rt),
     }
 }
 

@@ -3,11 +3,12 @@ use Rattle.std.specs.Prelude.{◌≡◌, None, ℕ, List, [], ◌++◌, codes, d
 use Rattle.std.specs.Fmt.{decimal}
 use Rattle.std.specs.List.{flat_map}
 use Rattle.hex.specs.Hex.{encode_lower}
-use Rattle.raft_cluster_events.specs.declared.outcome.EventOutcome.TheVariants.{Cleaned, Done, Stopped}
+use Rattle.raft_cluster_events.specs.declared.outcome.EventOutcome.TheVariants.{Done}
 use Rattle.raft_cluster_events.specs.declared.outcome.GroupOutcome.{GroupOutcome}
 use Rattle.raft_cluster_events.specs.declared.outcome.StopCause.TheVariants.{Other}
-use Rattle.raft_cluster_script.specs.Answers.{outcome_text}
+use Rattle.raft_cluster_script.specs.Answers.{outcome_text, stop_text as cluster_stop_text}
 use Rattle.raft_framed_groups.specs.declared.frames.GroupFrame.{GroupFrame}
+use Rattle.raft_machines.specs.declared.telling.Told.{Told}
 use Rattle.raft_machines.specs.declared.telling.UnknownTokens.{UnknownTokens}
 use Rattle.raft_node.specs.declared.outcome.Outcome.{Outcome}
 use Rattle.raft_node_faults.specs.Fault.{name_of, number_of}
@@ -15,7 +16,7 @@ use Rattle.raft_node_faults.specs.declared.fault.Fault.{Fault}
 use Rattle.raft_node_faults.specs.declared.fault.Fault.TheVariants as fault
 use Rattle.raft_node_script.specs.Home.{label_of}
 use Rattle.raft_node_script.specs.declared.home.HomeRefusal.{HomeRefusal}
-use Rattle.raft_script_answers.specs.Answer.{newline, refused_text}
+use Rattle.raft_script_answers.specs.Answer.{done_text as cluster_done_text, newline, refused_text}
 use Rattle.raft_script_answers.specs.declared.refusal.Refusal.TheVariants as shown
 
 -- a frame that leaves, with its bytes
@@ -34,20 +35,20 @@ abbrev pub without_frames : Outcome → GroupOutcome
 without_frames o = record { group = o.group; sent = []; told = o.told.items; unknown = o.unknown.items }
 
 -- what is behind the `ok` of a cluster's answer
-abbrev pub told_text : List Outcome → List ℕ
-told_text outcomes = drop 2 (outcome_text (Done (map without_frames outcomes)))
+abbrev pub told_text : (Told → List ℕ) → List Outcome → List ℕ
+told_text shows outcomes = drop 2 (outcome_text shows (Done (map without_frames outcomes)))
 
 -- the frames in place of a cluster's
-abbrev pub done_text : List Outcome → List ℕ
-done_text outcomes = codes "ok" ++ sent_text outcomes ++ told_text outcomes
+abbrev pub done_text : (Told → List ℕ) → List Outcome → List ℕ
+done_text shows outcomes = codes "ok" ++ sent_text outcomes ++ told_text shows outcomes
 
 -- the groups that hold old files back
 abbrev pub cleaned_text : List ℕ → List ℕ
-cleaned_text groups = outcome_text (Cleaned groups)
+cleaned_text groups = cluster_done_text [] [] [] groups
 
 -- a stop, with the tokens that stay unknown
 abbrev pub stop_text : List UnknownTokens → List ℕ
-stop_text unknown = outcome_text (Stopped (record { cause = Other; unsaid = None; unknown = unknown }))
+stop_text unknown = cluster_stop_text (record { cause = Other; unsaid = None; unknown = unknown })
 
 -- a refusal by its number and name
 abbrev pub named_text : {F : Type 0} → Fault F → List ℕ

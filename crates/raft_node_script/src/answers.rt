@@ -5,10 +5,11 @@ ghost use Rattle.raft_node_script.specs.Answers.{IsOneLineOf, cleaned_text, done
 use crate::home::HomeRefusal;
 use itoa::Buffer;
 use raft_cluster_events::{EventOutcome, GroupOutcome, Sequence, Stop, StopCause};
-use raft_cluster_script::outcome_text;
+use raft_cluster_script::{outcome_text, stop_text as cluster_stop_text};
 use raft_framed_groups::GroupFrame;
 use raft_node::{Fault, Outcome, UnknownTokens};
-use raft_script_answers::{Refusal, refused_text};
+use raft_script_answers::{Refusal, done_text as cluster_done_text, refused_text};
+use raft_script_machines::ScriptMachine;
 use std::alloc::{AllocError, Global};
 
 // The text, and a frame with its bytes behind it.
@@ -70,13 +71,16 @@ fn push_told(text: &mut String, answer: &str) -> Result<(), AllocError>
 }
 
 /// What an opening or an event did: its frames, what it told, and the tokens that stay unknown (own).
-pub fn done_text(alloc: Global, outcomes: Vec<Outcome>) -> Result<String, AllocError>
-    ensures { IfOk result (λ text. string_bytes text ≡ done_text outcomes.items) }
+pub fn done_text<M: ScriptMachine>(
+    alloc: Global,
+    outcomes: Vec<Outcome>,
+) -> Result<String, AllocError>
+    ensures { IfOk result (λ text. string_bytes text ≡ done_text M.speech.shows outcomes.items) }
 {
     let mut text = String::from_str(alloc, "ok")?;
     push_sent(alloc, &mut text, outcomes.as_slice())?;
     let parts = parts_of(alloc, outcomes)?;
-    let told = outcome_text(alloc, &EventOutcome::Done(parts))?;
+    let told = outcome_text::<M>(alloc, &EventOutcome::Done(parts))?;
     push_told(&mut text, told.as_str())?;
     Ok(text)
 }
@@ -85,7 +89,7 @@ pub fn done_text(alloc: Global, outcomes: Vec<Outcome>) -> Result<String, AllocE
 pub fn cleaned_text(alloc: Global, groups: Vec<u64>) -> Result<String, AllocError>
     ensures { IfOk result (λ text. string_bytes text ≡ cleaned_text groups.items) }
 {
-    outcome_text(alloc, &EventOutcome::Cleaned(Sequence::from_vec(groups)))
+    cluster_done_text(alloc, &[], "", &[], groups.as_slice())
 }
 
 // A refusal by its number and name.
@@ -105,14 +109,12 @@ fn named_text<F>(alloc: Global, fault: &Fault<F>) -> Result<String, AllocError>
 fn stop_text(alloc: Global, unknown: Vec<UnknownTokens>) -> Result<String, AllocError>
     ensures { IfOk result (λ text. string_bytes text ≡ stop_text unknown.items) }
 {
-    outcome_text(
-        alloc,
-        &EventOutcome::Stopped(Stop {
-            cause: StopCause::Other,
-            unsaid: None,
-            unknown: Sequence::from_vec(unknown),
-        }),
-    )
+    let stop = Stop {
+        cause: StopCause::Other,
+        unsaid: None,
+        unknown: Sequence::from_vec(unknown),
+    };
+    cluster_stop_text(alloc, &stop)
 }
 
 /// Why a call isn't done, with the tokens that stay unknown behind a stop (own).
@@ -142,20 +144,20 @@ fn on_one_line(alloc: Global, first: &str, second: &str) -> Result<String, Alloc
 
 /// What a piece of a stream did in which a frame is refused: what the frames before it did, if there
 /// are any, and why that one is refused (own).
-pub fn fed_text<F: Drop>(
+pub fn fed_text<M: ScriptMachine, F: Drop>(
     alloc: Global,
     outcomes: Vec<Outcome>,
     fault: Fault<F>,
 ) -> Result<String, AllocError>
     ensures alone { outcomes.items ≡ [] → IfOk result (λ text. string_bytes text ≡ fault_text fault) }
     ensures behind { ¬ (outcomes.items ≡ []) → IfOk result (λ text.
-        IsOneLineOf (done_text outcomes.items) (fault_text fault) (string_bytes text)) }
+        IsOneLineOf (done_text M.speech.shows outcomes.items) (fault_text fault) (string_bytes text)) }
 {
     let why = fault_text(alloc, fault)?;
     if outcomes.is_empty() {
         return Ok(why);
     }
-    let done = done_text(alloc, outcomes)?;
+    let done = done_text::<M>(alloc, outcomes)?;
     on_one_line(alloc, done.as_str(), why.as_str())
 }
 

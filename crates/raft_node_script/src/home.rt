@@ -5,6 +5,7 @@ ghost use Rattle.raft_node_script.specs.Home.{label_of};
 
 use raft_group_storage::GroupStorage;
 use raft_messages::SnapshotBytes;
+use raft_script_machines::ScriptMachine;
 use raft_storage_cleaning::CleanStorage;
 use std::thread::Threads;
 
@@ -40,6 +41,9 @@ impl HomeRefusal {
 
 /// Where a node has its storage (own): a process, or the next one, opens it there again.
 pub trait NodeHome: Drop {
+    /// What its groups' commands run on.
+    type Machine: ScriptMachine;
+
     /// The node's groups, stored.
     type Storage: GroupStorage<Snapshot = SnapshotBytes> + CleanStorage;
 

@@ -1,10 +1,11 @@
 //! The lines of a node's script: those of a cluster's script without the node, and `feed`.
 
 use raft_cluster_events::{ClusterEvent, GroupCommand};
-use raft_cluster_script::event_of;
+use raft_cluster_script::{event_of, tokens_after};
 use raft_script_lines::{
     NoEvent, ReadLineError, ScriptEvent, ScriptLine, first_word, number_of, read_line,
 };
+use raft_script_machines::ScriptMachine;
 use std::alloc::{AllocError, Global};
 use std::str;
 use thiserror::Error;
@@ -16,7 +17,7 @@ pub enum NodeLine {
     Skipped,
     /// `now T`
     Now { tick: u64 },
-    /// `total G`
+    /// `total G`, where the machine adds up.
     Total { group: u64 },
     /// `add G`
     Add { group: u64 },
@@ -76,7 +77,7 @@ fn is_of_all(word: &str) -> bool {
 
 // Whether no line of a node's script begins with this word.
 fn is_foreign(word: &str) -> bool {
-    matches!(word, "nodes" | "deliver" | "crash" | "fuse")
+    matches!(word, "nodes" | "kv" | "deliver" | "crash" | "fuse")
 }
 
 // The line with the node behind its first word.
@@ -118,24 +119,15 @@ fn of_node(event: ClusterEvent) -> Option<NodeLine> {
     }
 }
 
-fn tokens_behind(event: &ScriptEvent, tokens: u64) -> u64 {
-    match event {
-        ScriptEvent::Propose { .. } | ScriptEvent::Addr { .. } | ScriptEvent::Voters { .. } => {
-            tokens.saturating_add(1)
-        }
-        _ => tokens,
-    }
-}
-
 // An event of a line.
-fn event_line(
+fn event_line<M: ScriptMachine>(
     alloc: Global,
     tick: u64,
     tokens: u64,
     event: ScriptEvent,
 ) -> Result<ReadNodeLine, NodeLineError> {
-    let tokens = tokens_behind(&event, tokens);
-    let Some(event) = event_of(alloc, tick, tokens, event)? else {
+    let tokens = tokens_after(tokens, &event);
+    let Some(event) = event_of::<M>(alloc, tick, tokens, event)? else {
         return Err(FOREIGN);
     };
     match of_node(event) {
@@ -145,25 +137,32 @@ fn event_line(
 }
 
 // What a line of a cluster's script says of this node.
-fn line_in(
+fn line_in<M: ScriptMachine>(
     alloc: Global,
     tick: u64,
     tokens: u64,
     bytes: &[u8],
 ) -> Result<ReadNodeLine, NodeLineError> {
-    let line = match read_line(alloc, bytes)? {
+    let line = read_line(alloc, bytes)?;
+    if !M::takes_line(&line) {
+        return Err(FOREIGN);
+    }
+    let line = match line {
         ScriptLine::Skipped => NodeLine::Skipped,
         ScriptLine::Now { tick } => NodeLine::Now { tick },
         ScriptLine::Total { node: _, group } => NodeLine::Total { group },
-        ScriptLine::Happens(event) => return event_line(alloc, tick, tokens, event),
-        ScriptLine::Nodes { .. } | ScriptLine::Fuse { .. } => return Err(FOREIGN),
+        ScriptLine::Happens(event) => return event_line::<M>(alloc, tick, tokens, event),
+        ScriptLine::Nodes { .. } | ScriptLine::Kv { .. } | ScriptLine::Fuse { .. } => {
+            return Err(FOREIGN);
+        }
     };
     Ok(ReadNodeLine { line, tokens })
 }
 
-/// What the bytes of a line say at this tick, behind so many tokens (own). They come without their
-/// newline. An `Err` says why they are no event of a node, or that memory is missing.
-pub fn read_node_line(
+/// What the bytes of a line say at this tick, behind so many tokens, where nodes have this machine
+/// (own). They come without their newline. An `Err` says why they are no event of a node, or that
+/// memory is missing.
+pub fn read_node_line<M: ScriptMachine>(
     alloc: Global,
     node: u64,
     tick: u64,
@@ -178,7 +177,7 @@ pub fn read_node_line(
         return Err(FOREIGN);
     }
     if is_of_all(word) {
-        return line_in(alloc, tick, tokens, bytes);
+        return line_in::<M>(alloc, tick, tokens, bytes);
     }
     match (word, rest) {
         ("feed", Some(words)) => {
@@ -187,7 +186,7 @@ pub fn read_node_line(
         }
         _ => {
             let whole = with_node(alloc, node, text)?;
-            line_in(alloc, tick, tokens, whole.as_bytes())
+            line_in::<M>(alloc, tick, tokens, whole.as_bytes())
         }
     }
 }

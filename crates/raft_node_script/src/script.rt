@@ -5,9 +5,9 @@ use crate::home::NodeHome;
 use crate::lines::{NodeLine, NodeLineError, ReadNodeLine, read_node_line};
 use raft_conditions::GroupCommand;
 use raft_group_storage::GroupStorage;
-use raft_machines::AddingMachine;
 use raft_node::{Fault, Fed, Node, NotOpened, Opened, Outcome};
 use raft_script_answers::{AppliedTotal, Refusal, refused_text, total_text};
+use raft_script_machines::ScriptMachine;
 use raft_script_session::LineRunner;
 use std::alloc::{AllocError, Global};
 use std::thread::Threads;
@@ -18,7 +18,7 @@ pub struct NodeScript<H: NodeHome> {
     alloc: Global,
     id: u64,
     home: H,
-    node: Option<Node<AddingMachine, H::Storage>>,
+    node: Option<Node<H::Machine, H::Storage>>,
     tokens: u64,
     tick: u64,
 }
@@ -46,7 +46,7 @@ impl<H: NodeHome> NodeScript<H> {
         match Node::open(self.alloc, self.id, storage) {
             Ok(Opened { node, outcomes }) => {
                 self.node = Some(node);
-                done_text(self.alloc, outcomes)
+                done_text::<H::Machine>(self.alloc, outcomes)
             }
             Err(NotOpened { fault, storage }) => {
                 self.home.complain(&storage);
@@ -64,7 +64,7 @@ impl<H: NodeHome> NodeScript<H> {
             Ok(outcome) => {
                 let mut outcomes = Vec::new(self.alloc);
                 outcomes.push(outcome)?;
-                done_text(self.alloc, outcomes)
+                done_text::<H::Machine>(self.alloc, outcomes)
             }
             Err(fault) => self.refused(fault),
         }
@@ -122,10 +122,10 @@ impl<H: NodeHome> NodeScript<H> {
             let _ = node.reset_peer(peer);
         }
         let Some(fault) = fault else {
-            return done_text(self.alloc, outcomes);
+            return done_text::<H::Machine>(self.alloc, outcomes);
         };
         self.complain_of(&fault);
-        fed_text(self.alloc, outcomes, fault)
+        fed_text::<H::Machine, _>(self.alloc, outcomes, fault)
     }
 
     // The log is cleaned, where it is time for that.
@@ -146,7 +146,7 @@ impl<H: NodeHome> NodeScript<H> {
     // What the group's machine has added up, if the node is up and has the group.
     fn applied(&self, group: u64) -> Option<AppliedTotal> {
         let node = self.node.as_ref()?;
-        let total = node.machine(group)?.total();
+        let total = node.machine(group)?.total_of()?;
         let place = node.applied(group);
         Some(AppliedTotal { total, place })
     }
@@ -180,7 +180,7 @@ impl<H: NodeHome> LineRunner for NodeScript<H> {
         rt: &R,
         line: &[u8],
     ) -> Result<Option<String>, AllocError> {
-        match read_node_line(self.alloc, self.id, self.tick, self.tokens, line) {
+        match read_node_line::<H::Machine>(self.alloc, self.id, self.tick, self.tokens, line) {
             Ok(ReadNodeLine { line, tokens }) => {
                 let text = self.take(rt, line)?;
                 self.tokens = tokens;

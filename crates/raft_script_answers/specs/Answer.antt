@@ -4,9 +4,8 @@ use Rattle.std.specs.List.{flat_map}
 use Rattle.std.specs.Fmt.{decimal}
 use Rattle.raft_script_answers.specs.declared.refusal.Refusal.{Refusal}
 use Rattle.raft_script_answers.specs.declared.refusal.Refusal.TheVariants.{NotLeader}
-use Rattle.raft_script_answers.specs.declared.told_total.AppliedTotal.{AppliedTotal}
-use Rattle.raft_script_answers.specs.declared.told_total.SentNumber.{SentNumber}
-use Rattle.raft_script_answers.specs.declared.told_total.ToldTotal.{ToldTotal}
+use Rattle.raft_script_answers.specs.declared.shown.AppliedTotal.{AppliedTotal}
+use Rattle.raft_script_answers.specs.declared.shown.SentNumber.{SentNumber}
 use Rattle.raft_script_answers.specs.Refusal.{label_of}
 
 abbrev pub newline : List ℕ
@@ -21,10 +20,17 @@ number_or_dash (Some number) = decimal number
 abbrev pub sent_text : SentNumber → List ℕ
 sent_text sent = codes " >" ++ (decimal sent.peer ++ (codes "#" ++ decimal sent.number))
 
--- a told answer: its token, its place and the total
-abbrev pub told_text : ToldTotal → List ℕ
-told_text told =
-    codes " told " ++ (decimal told.token ++ (codes "@" ++ (decimal told.place ++ (codes "=" ++ number_or_dash told.total))))
+-- a token and its place
+abbrev pub place_text : ℕ → ℕ → List ℕ
+place_text token place = decimal token ++ (codes "@" ++ decimal place)
+
+-- a told answer: its token, its place and the text of the answer
+abbrev pub value_text : ℕ → ℕ → List ℕ → List ℕ
+value_text token place value = codes " told " ++ (place_text token place ++ (codes "=" ++ value))
+
+-- a command of this token found no room
+abbrev pub full_text : ℕ → ℕ → List ℕ
+full_text token place = codes " full " ++ place_text token place
 
 abbrev pub unknown_text : ℕ → List ℕ
 unknown_text token = codes " unknown " ++ decimal token
@@ -32,11 +38,10 @@ unknown_text token = codes " unknown " ++ decimal token
 abbrev pub compact_text : ℕ → List ℕ
 compact_text group = codes " compact " ++ decimal group
 
--- frames first, then what is told, then the unknown tokens, then the groups to compact
-abbrev pub done_text : List SentNumber → List ToldTotal → List ℕ → List ℕ → List ℕ
+-- frames first, then the text of what is told, then the unknown tokens, then the groups to compact
+abbrev pub done_text : List SentNumber → List ℕ → List ℕ → List ℕ → List ℕ
 done_text sent told unknown compact =
-    codes "ok" ++ flat_map sent_text sent ++ flat_map told_text told ++ flat_map unknown_text unknown
-    ++ flat_map compact_text compact ++ newline
+    codes "ok" ++ flat_map sent_text sent ++ told ++ flat_map unknown_text unknown ++ flat_map compact_text compact ++ newline
 
 -- who leads, behind the refusal that says so
 abbrev pub leader_text : Refusal → List ℕ

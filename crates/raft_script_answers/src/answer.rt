@@ -1,34 +1,15 @@
 //! The text of an answer.
 ghost use Rattle.std.specs.Prelude.{◌≡◌, ◌++◌, IfOk, OnOk, string_bytes};
-ghost use Rattle.std.specs.Fmt.{decimal};
 ghost use Rattle.std.specs.List.{flat_map};
-ghost use Rattle.raft_script_answers.specs.Answer.{number_or_dash, sent_text, told_text, unknown_text, compact_text, leader_text, done_text, refused_text, stopped_text, total_text};
+ghost use Rattle.raft_script_answers.specs.Answer.{sent_text, unknown_text, compact_text, leader_text, done_text, refused_text, stopped_text, total_text};
 
+use crate::numbers::{push_number, push_number_or_dash};
 use crate::refusal::Refusal;
-use crate::told_total::{AppliedTotal, SentNumber, ToldTotal};
-use itoa::Buffer;
+use crate::shown::{AppliedTotal, SentNumber};
 use std::alloc::{AllocError, Global};
 
 // Room for most answers, so that text doesn't move as it grows.
 const ROOM: usize = 64;
-
-// The text, and the number behind it.
-fn push_number(text: &mut String, number: u64) -> Result<(), AllocError>
-    ensures { OnOk result (string_bytes text.new ≡ string_bytes text.old ++ decimal number) }
-{
-    let mut digits = Buffer::new();
-    text.push_str(digits.format(number))
-}
-
-// The text, and behind it a number, or `-` where there is none.
-fn push_number_or_dash(text: &mut String, number: Option<u64>) -> Result<(), AllocError>
-    ensures { OnOk result (string_bytes text.new ≡ string_bytes text.old ++ number_or_dash number) }
-{
-    match number {
-        Some(number) => push_number(text, number),
-        None => text.push_str("-"),
-    }
-}
 
 // The text, and a frame behind it.
 fn push_one_sent(text: &mut String, sent: &SentNumber) -> Result<(), AllocError>
@@ -40,18 +21,6 @@ fn push_one_sent(text: &mut String, sent: &SentNumber) -> Result<(), AllocError>
     push_number(text, sent.number)
 }
 
-// The text, and a told answer behind it.
-fn push_one_told(text: &mut String, told: &ToldTotal) -> Result<(), AllocError>
-    ensures { OnOk result (string_bytes text.new ≡ string_bytes text.old ++ told_text told.now) }
-{
-    text.push_str(" told ")?;
-    push_number(text, told.token)?;
-    text.push_str("@")?;
-    push_number(text, told.place)?;
-    text.push_str("=")?;
-    push_number_or_dash(text, told.total)
-}
-
 // The text, and each frame behind it.
 fn push_sent(text: &mut String, sent: &[SentNumber]) -> Result<(), AllocError>
     ensures { OnOk result (string_bytes text.new
@@ -59,17 +28,6 @@ fn push_sent(text: &mut String, sent: &[SentNumber]) -> Result<(), AllocError>
 {
     for one in sent {
         push_one_sent(text, one)?;
-    }
-    Ok(())
-}
-
-// The text, and each told answer behind it.
-fn push_told(text: &mut String, told: &[ToldTotal]) -> Result<(), AllocError>
-    ensures { OnOk result (string_bytes text.new
-        ≡ string_bytes text.old ++ flat_map told_text told.now) }
-{
-    for one in told {
-        push_one_told(text, one)?;
     }
     Ok(())
 }
@@ -107,12 +65,12 @@ fn roomy(alloc: Global, text: &str) -> Result<String, AllocError>
     Ok(roomy)
 }
 
-/// An event ran to its end: its frames, what it told, the tokens that stay unknown, and the groups
-/// that a cleaning names, each list in its order (own). An `Err` is want of memory.
+/// An event ran to its end: its frames, the text of what it told, the tokens that stay unknown, and
+/// the groups that a cleaning names, each list in its order (own). An `Err` is want of memory.
 pub fn done_text(
     alloc: Global,
     sent: &[SentNumber],
-    told: &[ToldTotal],
+    told: &str,
     unknown: &[u64],
     compact: &[u64],
 ) -> Result<String, AllocError>
@@ -121,7 +79,7 @@ pub fn done_text(
 {
     let mut text = roomy(alloc, "ok")?;
     push_sent(&mut text, sent)?;
-    push_told(&mut text, told)?;
+    text.push_str(told)?;
     push_unknown(&mut text, unknown)?;
     push_compact(&mut text, compact)?;
     text.push_str("\n")?;

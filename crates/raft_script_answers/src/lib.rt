@@ -2,9 +2,12 @@
 #![tactic(auto)]
 
 mod answer;
+mod numbers;
 mod refusal;
-mod told_total;
+mod shown;
+mod told;
 
 pub use answer::{done_text, refused_text, stopped_text, total_text};
 pub use refusal::Refusal;
-pub use told_total::{AppliedTotal, SentNumber, ToldTotal};
+pub use shown::{AppliedTotal, SentNumber};
+pub use told::{push_full, push_total, push_value};

@@ -1,5 +1,5 @@
 -- Events and lines: what is read is what the grammar says, and the other way round.
-use Rattle.std.proofs.Common.{◌≡◌, ℕ, ◌<◌, Bool, true, false, ◌||◌, List, [], ◌∷◌, length, Option, Some, None, Result, Ok, Err, refl, ◌∙◌, ap, cond, codes, arith}
+use Rattle.std.proofs.Common.{◌≡◌, ℕ, ◌<◌, Bool, true, false, ◌||◌, List, [], ◌∷◌, length, Option, Some, None, Result, Ok, Err, refl, sym, ◌∙◌, ap, cond, ltb, ◌≤◌, codes, arith}
 use Rattle.std.specs.Str.{bytes_eq}
 use Rattle.std.proofs.lemmas.Slice.Eq.{bytes_eq-Decides}
 use Rattle.raft_script_lines.specs.declared.script_line.CrashChoice.TheVariants.{Least, Most}
@@ -11,10 +11,12 @@ use Rattle.raft_script_lines.specs.declared.verb.WordOfTwo.{WordOfTwo}
 use Rattle.raft_script_lines.specs.declared.verb.WordOfTwo.TheVariants.{Add, Elect, Heartbeat, Snapshot, Reopen}
 use Rattle.raft_script_lines.specs.declared.verb.WordOfThree.{WordOfThree}
 use Rattle.raft_script_lines.specs.declared.verb.WordOfThree.TheVariants.{Propose, Lost, Purge}
+use Rattle.raft_script_lines.specs.declared.verb.WordOfKey.{WordOfKey}
+use Rattle.raft_script_lines.specs.declared.verb.WordOfKey.TheVariants.{Get, Drop}
 use Rattle.raft_script_lines.specs.declared.no_event.NoEvent.{NoEvent}
-use Rattle.raft_script_lines.specs.declared.no_event.NoEvent.TheVariants.{WrongCount, NotANumber, IdTwice, UnknownChoice}
-use Rattle.raft_script_lines.specs.Grammar.{Number, AreWords, event_words, IsAllowedEvent}
-use Rattle.raft_script_lines.specs.Reading.{then_by, given, unless, one_number, two_numbers, three_numbers, before_slash, behind_slash, are_missing, or_none, event_with_two, event_with_three, init_in, init_with, voters_in, voters_with, addr_in, deliver_in, crash_in, event_after, event_in}
+use Rattle.raft_script_lines.specs.declared.no_event.NoEvent.TheVariants.{WrongCount, NotANumber, OutOfRange, IdTwice, UnknownChoice}
+use Rattle.raft_script_lines.specs.Grammar.{Number, AreWords, event_words, IsAllowedEvent, IsKey, IsValue}
+use Rattle.raft_script_lines.specs.Reading.{then_by, given, unless, one_number, two_numbers, three_numbers, before_slash, behind_slash, are_missing, or_none, event_with_two, event_with_three, event_with_key, key_event_in, put_in, init_in, init_with, voters_in, voters_with, addr_in, deliver_in, crash_in, event_after, event_in}
 use Rattle.raft_script_lines.specs.Verbs.{found, verbs, verb_of}
 use Rattle.raft_script_lines.specs.Words.{no_words, number_of, numbers_of, has_twice}
 use Rattle.raft_script_lines.proofs.NumberLemmas.{along, told_unless, okay, some_or, one_read, two_read, three_read, list_read, lists_read}
@@ -33,9 +35,15 @@ three_text Propose = codes "propose"
 three_text Lost = codes "lost"
 three_text Purge = codes "purge"
 
+abbrev pub key_text : WordOfKey → List ℕ
+key_text Get = codes "get"
+key_text Drop = codes "drop"
+
 abbrev pub verb_text : Verb → List ℕ
 verb_text (verb.Two word) = two_text word
 verb_text (verb.Three word) = three_text word
+verb_text (verb.Key word) = key_text word
+verb_text verb.Put = codes "put"
 verb_text verb.Init = codes "init"
 verb_text verb.Addr = codes "addr"
 verb_text verb.Voters = codes "voters"
@@ -48,7 +56,7 @@ AreNamed [] = Unit {0}
 AreNamed (entry ∷ others) = (entry.0 ≡ verb_text entry.1) × AreNamed others
 
 named : AreNamed verbs
-named = (refl, (refl, (refl, (refl, (refl, (refl, (refl, (refl, (refl, (refl, (refl, (refl, (refl, (refl, tt))))))))))))))
+named = (refl, (refl, (refl, (refl, (refl, (refl, (refl, (refl, (refl, (refl, (refl, (refl, (refl, (refl, (refl, (refl, (refl, tt)))))))))))))))))
 
 found_by : (b : Bool) (word text : List ℕ) (v w : Verb) (others : Option Verb) → (b ≡ true → word ≡ text) → text ≡ verb_text v → cond b (Some v) others ≡ Some w → (others ≡ Some w → word ≡ verb_text w) → word ≡ verb_text w
 found_by true word text v w others is name e more = is refl ∙ (name ∙ ap (λ o. verb_text (some_or v o)) e)
@@ -168,6 +176,55 @@ addr_read word (n ∷ g ∷ i ∷ text ∷ []) event name e =
     addr_by word n g i text event name (number_of n) (number_of g) (number_of i) refl refl refl e
 addr_read word (n ∷ g ∷ i ∷ text ∷ more ∷ words) event name e = absurd (cc)
 
+short_by : (limit : ℕ) (word : List ℕ) → ltb limit (length word) ≡ false → length word ≤ limit
+short_by limit word e = grind (arith)
+
+value_by : (v : List ℕ) → ltb 199 (length v) ≡ false → bytes_eq v (codes "-") ≡ false → IsValue v
+value_by v short other =
+    (short_by 199 v short, λ dash. let no : true ≡ false = sym ((bytes_eq-Decides v (codes "-")).1 dash) ∙ other in cc)
+
+put_by : (word n g k v : List ℕ) (event : ScriptEvent) → word ≡ codes "put" → (x y : Option ℕ) → number_of n ≡ x → number_of g ≡ y → (b c d : Bool) → ltb 255 (length k) ≡ b → ltb 199 (length v) ≡ c → bytes_eq v (codes "-") ≡ d
+    → then_by (given NotANumber x) (λ node. then_by (given NotANumber y) (λ group. then_by (unless b OutOfRange k) (λ key. then_by (unless (c || d) OutOfRange v) (λ value. okay (events.Put node group key value))))) ≡ okay event
+    → IsEventIn (word ∷ n ∷ g ∷ k ∷ v ∷ []) event
+put_by word n g k v event name None y ex ey b c d eb ec ed e = absurd (cc)
+put_by word n g k v event name (Some x) None ex ey b c d eb ec ed e = absurd (cc)
+put_by word n g k v event name (Some x) (Some y) ex ey true c d eb ec ed e = absurd (cc)
+put_by word n g k v event name (Some x) (Some y) ex ey false true d eb ec ed e = absurd (cc)
+put_by word n g k v event name (Some x) (Some y) ex ey false false true eb ec ed e = absurd (cc)
+put_by word n g k v event name (Some x) (Some y) ex ey false false false eb ec ed e =
+    along (IsEventIn (word ∷ n ∷ g ∷ k ∷ v ∷ [])) (events.Put x y k v) event e
+    ((name, (ex, (ey, (refl, (refl, tt))))), (short_by 255 k eb, value_by v ec ed))
+
+put_read : (word : List ℕ) (words : List (List ℕ)) (event : ScriptEvent) → word ≡ codes "put" → put_in words ≡ okay event → IsEventIn (word ∷ words) event
+put_read word [] event name e = absurd (cc)
+put_read word (n ∷ []) event name e = absurd (cc)
+put_read word (n ∷ g ∷ []) event name e = absurd (cc)
+put_read word (n ∷ g ∷ k ∷ []) event name e = absurd (cc)
+put_read word (n ∷ g ∷ k ∷ v ∷ []) event name e =
+    put_by word n g k v event name (number_of n) (number_of g) refl refl (ltb 255 (length k)) (ltb 199 (length v)) (bytes_eq v (codes "-")) refl refl refl e
+put_read word (n ∷ g ∷ k ∷ v ∷ more ∷ words) event name e = absurd (cc)
+
+key_event : (w : WordOfKey) (word n g k : List ℕ) (x y : ℕ) → word ≡ key_text w → number_of n ≡ Some x → number_of g ≡ Some y → IsKey k → IsEventIn (word ∷ n ∷ g ∷ k ∷ []) (event_with_key w x y k)
+key_event Get word n g k x y name ex ey short = ((name, (ex, (ey, (refl, tt)))), short)
+key_event Drop word n g k x y name ex ey short = ((name, (ex, (ey, (refl, tt)))), short)
+
+key_by : (w : WordOfKey) (word n g k : List ℕ) (event : ScriptEvent) → word ≡ key_text w → (x y : Option ℕ) → number_of n ≡ x → number_of g ≡ y → (b : Bool) → ltb 255 (length k) ≡ b
+    → then_by (given NotANumber x) (λ node. then_by (given NotANumber y) (λ group. then_by (unless b OutOfRange k) (λ key. okay (event_with_key w node group key)))) ≡ okay event
+    → IsEventIn (word ∷ n ∷ g ∷ k ∷ []) event
+key_by w word n g k event name None y ex ey b eb e = absurd (cc)
+key_by w word n g k event name (Some x) None ex ey b eb e = absurd (cc)
+key_by w word n g k event name (Some x) (Some y) ex ey true eb e = absurd (cc)
+key_by w word n g k event name (Some x) (Some y) ex ey false eb e =
+    along (IsEventIn (word ∷ n ∷ g ∷ k ∷ [])) (event_with_key w x y k) event e (key_event w word n g k x y name ex ey (short_by 255 k eb))
+
+key_read : (w : WordOfKey) (word : List ℕ) (words : List (List ℕ)) (event : ScriptEvent) → word ≡ key_text w → key_event_in w words ≡ okay event → IsEventIn (word ∷ words) event
+key_read w word [] event name e = absurd (cc)
+key_read w word (n ∷ []) event name e = absurd (cc)
+key_read w word (n ∷ g ∷ []) event name e = absurd (cc)
+key_read w word (n ∷ g ∷ k ∷ []) event name e =
+    key_by w word n g k event name (number_of n) (number_of g) refl refl (ltb 255 (length k)) refl e
+key_read w word (n ∷ g ∷ k ∷ more ∷ words) event name e = absurd (cc)
+
 whole_by : (word g n : List ℕ) (event : ScriptEvent) → word ≡ codes "deliver" → (x y : Option ℕ) → number_of g ≡ x → number_of n ≡ y
     → then_by (given NotANumber x) (λ group. then_by (given NotANumber y) (λ number. okay (events.Deliver group number None))) ≡ okay event
     → IsEventIn (word ∷ g ∷ n ∷ []) event
@@ -213,6 +270,8 @@ after_read : (word : List ℕ) (o : Option Verb) → ((v : Verb) → o ≡ Some 
 after_read word None name words event e = absurd (cc)
 after_read word (Some (verb.Two k)) name words event e = two_events k word words event (name (verb.Two k) refl) (two_numbers words) (two_read words) e
 after_read word (Some (verb.Three k)) name words event e = three_events k word words event (name (verb.Three k) refl) (three_numbers words) (three_read words) e
+after_read word (Some (verb.Key k)) name words event e = key_read k word words event (name (verb.Key k) refl) e
+after_read word (Some verb.Put) name words event e = put_read word words event (name verb.Put refl) e
 after_read word (Some verb.Init) name words event e = init_read word words event (name verb.Init refl) e
 after_read word (Some verb.Addr) name words event e = addr_read word words event (name verb.Addr refl) e
 after_read word (Some verb.Voters) name words event e = voters_read word words event (name verb.Voters refl) e

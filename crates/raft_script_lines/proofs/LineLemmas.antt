@@ -9,14 +9,14 @@ use Rattle.std.proofs.lemmas.Slice.Eq.{bytes_eq-Decides}
 use Rattle.raft_script_lines.specs.declared.script_line.ScriptEvent.{ScriptEvent}
 use Rattle.raft_script_lines.specs.declared.script_line.ScriptEvent.TheVariants as events
 use Rattle.raft_script_lines.specs.declared.script_line.ScriptLine.{ScriptLine}
-use Rattle.raft_script_lines.specs.declared.script_line.ScriptLine.TheVariants.{Skipped, Nodes, Now, Total, Happens, Fuse}
+use Rattle.raft_script_lines.specs.declared.script_line.ScriptLine.TheVariants.{Skipped, Nodes, Kv, Now, Total, Happens, Fuse}
 use Rattle.raft_script_lines.specs.declared.no_event.NoEvent.{NoEvent}
 use Rattle.raft_script_lines.specs.declared.no_event.NoEvent.TheVariants.{TooLong, NotUtf8, SpareSpace, WrongCount, NotANumber, OutOfRange}
 use Rattle.raft_script_lines.specs.declared.no_event.ReadLineError.{ReadLineError}
 use Rattle.raft_script_lines.specs.declared.no_event.ReadLineError.TheVariants as errors
-use Rattle.raft_script_lines.specs.Grammar.{Word, Text, Number, AreWords, event_words, IsAllowedEvent, line_words, IsAllowed, IsSkipped, HasWords, Says, Spells}
+use Rattle.raft_script_lines.specs.Grammar.{Word, Text, Number, AreWords, event_words, IsAllowedEvent, line_words, IsAllowed, IsCount, IsSkipped, HasWords, Says, Spells}
 use Rattle.raft_script_lines.specs.Outcome.{Tells, SpellsOnly, SpellsNone, IsWhyNot}
-use Rattle.raft_script_lines.specs.Reading.{then_by, given, unless, one_number, two_numbers, event_in, nodes_in, fuse_with, fuse_in, line_in, line_with, text_in, line_of}
+use Rattle.raft_script_lines.specs.Reading.{then_by, given, unless, one_number, two_numbers, event_in, count_in, fuse_with, fuse_in, line_in, line_with, text_in, line_of}
 use Rattle.raft_script_lines.specs.Words.{words_of, no_words, is_empty_word, number_of}
 use Rattle.raft_script_lines.proofs.WordLemmas.{words_empty}
 use Rattle.raft_script_lines.proofs.NumberLemmas.{along, told_unless, okay, value_or, then_given, then_okay, one_said, one_read, two_said, two_read}
@@ -29,18 +29,27 @@ IsLineIn words line = AreWords (line_words line) words × IsAllowed line
 
 -- ---- read, so said
 
-nodes_by : (words : List (List ℕ)) (word : List ℕ) (line : ScriptLine) → word ≡ codes "nodes" → (count : ℕ) → AreWords (Number count ∷ []) words → (b d : Bool) → (eqb count 0 ≡ b) → (ltb 9 count ≡ d) → unless (b || d) OutOfRange (Nodes count) ≡ okay line → IsLineIn (word ∷ words) line
-nodes_by words word line name count h true d eb ed e = absurd (cc)
-nodes_by words word line name count h false true eb ed e = absurd (cc)
-nodes_by words word line name count h false false eb ed e =
+count_by : (words : List (List ℕ)) (count n : ℕ) → AreWords (Number count ∷ []) words → (b d : Bool) → (eqb count 0 ≡ b) → (ltb 9 count ≡ d) → unless (b || d) OutOfRange count ≡ okay n → AreWords (Number n ∷ []) words × IsCount n
+count_by words count n h true d eb ed e = absurd (cc)
+count_by words count n h false true eb ed e = absurd (cc)
+count_by words count n h false false eb ed e =
     let low : 1 ≤ count = grind (arith) in
     let high : count ≤ 9 = grind (arith) in
-    along (IsLineIn (word ∷ words)) (Nodes count) line e ((name, h), (low, high))
+    along (λ m. AreWords (Number m ∷ []) words × IsCount m) count n e (h, (low, high))
 
-nodes_read : (words : List (List ℕ)) (word : List ℕ) (line : ScriptLine) → word ≡ codes "nodes" → (r : Result ℕ NoEvent) → ((n : ℕ) → r ≡ okay n → AreWords (Number n ∷ []) words) → then_by r (λ count. unless (eqb count 0 || ltb 9 count) OutOfRange (Nodes count)) ≡ okay line → IsLineIn (word ∷ words) line
+count_read : (words : List (List ℕ)) (n : ℕ) (r : Result ℕ NoEvent) → ((m : ℕ) → r ≡ okay m → AreWords (Number m ∷ []) words) → then_by r (λ count. unless (eqb count 0 || ltb 9 count) OutOfRange count) ≡ okay n → AreWords (Number n ∷ []) words × IsCount n
+count_read words n (Ok count) h e = count_by words count n (h count refl) (eqb count 0) (ltb 9 count) refl refl e
+count_read words n (Err why) h e = absurd (cc)
+
+nodes_read : (words : List (List ℕ)) (word : List ℕ) (line : ScriptLine) → word ≡ codes "nodes" → (r : Result ℕ NoEvent) → ((n : ℕ) → r ≡ okay n → AreWords (Number n ∷ []) words × IsCount n) → then_by r (λ count. okay (Nodes count)) ≡ okay line → IsLineIn (word ∷ words) line
 nodes_read words word line name (Ok count) h e =
-    nodes_by words word line name count (h count refl) (eqb count 0) (ltb 9 count) refl refl e
+    let (said, counts) = h count refl in along (IsLineIn (word ∷ words)) (Nodes count) line e ((name, said), counts)
 nodes_read words word line name (Err why) h e = absurd (cc)
+
+kv_read : (words : List (List ℕ)) (word : List ℕ) (line : ScriptLine) → word ≡ codes "kv" → (r : Result ℕ NoEvent) → ((n : ℕ) → r ≡ okay n → AreWords (Number n ∷ []) words × IsCount n) → then_by r (λ count. okay (Kv count)) ≡ okay line → IsLineIn (word ∷ words) line
+kv_read words word line name (Ok count) h e =
+    let (said, counts) = h count refl in along (IsLineIn (word ∷ words)) (Kv count) line e ((name, said), counts)
+kv_read words word line name (Err why) h e = absurd (cc)
 
 now_read : (words : List (List ℕ)) (word : List ℕ) (line : ScriptLine) → word ≡ codes "now" → (r : Result ℕ NoEvent) → ((n : ℕ) → r ≡ okay n → AreWords (Number n ∷ []) words) → then_by r (λ tick. okay (Now tick)) ≡ okay line → IsLineIn (word ∷ words) line
 now_read words word line name (Ok tick) h e = along (IsLineIn (word ∷ words)) (Now tick) line e ((name, h tick refl), tt)
@@ -71,20 +80,21 @@ fuse_read [] word line name e = absurd (cc)
 fuse_read (k ∷ words) word line name e =
     fuse_by k words word line name (number_of k) refl (event_in words) (event_read words) (told_unless (no_words words) WrongCount (fuse_with k words) line e).1
 
-line_by : (word : List ℕ) (words : List (List ℕ)) (line : ScriptLine) (a b c d : Bool) → (a ≡ true → word ≡ codes "nodes") → (b ≡ true → word ≡ codes "now") → (c ≡ true → word ≡ codes "total") → (d ≡ true → word ≡ codes "fuse")
-    → cond a (nodes_in words) (cond b (then_by (one_number words) (λ tick. okay (Now tick))) (cond c (then_by (two_numbers words) (λ n. okay (Total n.0 n.1))) (cond d (fuse_in words) (then_by (event_in (word ∷ words)) (λ event. okay (Happens event)))))) ≡ okay line
+line_by : (word : List ℕ) (words : List (List ℕ)) (line : ScriptLine) (a k b c d : Bool) → (a ≡ true → word ≡ codes "nodes") → (k ≡ true → word ≡ codes "kv") → (b ≡ true → word ≡ codes "now") → (c ≡ true → word ≡ codes "total") → (d ≡ true → word ≡ codes "fuse")
+    → cond a (then_by (count_in words) (λ count. okay (Nodes count))) (cond k (then_by (count_in words) (λ count. okay (Kv count))) (cond b (then_by (one_number words) (λ tick. okay (Now tick))) (cond c (then_by (two_numbers words) (λ n. okay (Total n.0 n.1))) (cond d (fuse_in words) (then_by (event_in (word ∷ words)) (λ event. okay (Happens event))))))) ≡ okay line
     → IsLineIn (word ∷ words) line
-line_by word words line true b c d nodes now total fuse e = nodes_read words word line (nodes refl) (one_number words) (one_read words) e
-line_by word words line false true c d nodes now total fuse e = now_read words word line (now refl) (one_number words) (one_read words) e
-line_by word words line false false true d nodes now total fuse e = total_read words word line (total refl) (two_numbers words) (two_read words) e
-line_by word words line false false false true nodes now total fuse e = fuse_read words word line (fuse refl) e
-line_by word words line false false false false nodes now total fuse e = happens_read (word ∷ words) line (event_in (word ∷ words)) (event_read (word ∷ words)) e
+line_by word words line true k b c d nodes kv now total fuse e = nodes_read words word line (nodes refl) (count_in words) (λ n. count_read words n (one_number words) (one_read words)) e
+line_by word words line false true b c d nodes kv now total fuse e = kv_read words word line (kv refl) (count_in words) (λ n. count_read words n (one_number words) (one_read words)) e
+line_by word words line false false true c d nodes kv now total fuse e = now_read words word line (now refl) (one_number words) (one_read words) e
+line_by word words line false false false true d nodes kv now total fuse e = total_read words word line (total refl) (two_numbers words) (two_read words) e
+line_by word words line false false false false true nodes kv now total fuse e = fuse_read words word line (fuse refl) e
+line_by word words line false false false false false nodes kv now total fuse e = happens_read (word ∷ words) line (event_in (word ∷ words)) (event_read (word ∷ words)) e
 
 line_read : (words : List (List ℕ)) (line : ScriptLine) → line_in words ≡ okay line → IsLineIn words line
 line_read [] line e = absurd (cc)
 line_read (word ∷ words) line e =
-    line_by word words line (bytes_eq word (codes "nodes")) (bytes_eq word (codes "now")) (bytes_eq word (codes "total")) (bytes_eq word (codes "fuse"))
-    (bytes_eq-Decides word (codes "nodes")).0 (bytes_eq-Decides word (codes "now")).0 (bytes_eq-Decides word (codes "total")).0 (bytes_eq-Decides word (codes "fuse")).0 e
+    line_by word words line (bytes_eq word (codes "nodes")) (bytes_eq word (codes "kv")) (bytes_eq word (codes "now")) (bytes_eq word (codes "total")) (bytes_eq word (codes "fuse"))
+    (bytes_eq-Decides word (codes "nodes")).0 (bytes_eq-Decides word (codes "kv")).0 (bytes_eq-Decides word (codes "now")).0 (bytes_eq-Decides word (codes "total")).0 (bytes_eq-Decides word (codes "fuse")).0 e
 
 -- a line that has words isn't skipped
 says_words : (line : ScriptLine) (bytes : List ℕ) → HasWords line bytes → Says line bytes
@@ -94,6 +104,7 @@ says_words Skipped bytes h = absurd (no_words (words_of bytes) (words_empty byte
     no_words [] some are = some refl
     no_words (word ∷ words) some are = are
 says_words (Nodes count) bytes h = h
+says_words (Kv count) bytes h = h
 says_words (Now tick) bytes h = h
 says_words (Total node group) bytes h = h
 says_words (Happens event) bytes h = h
@@ -129,17 +140,25 @@ read_spelled bytes line e = line_of_by (ltb 65536 (length bytes)) (is_utf8 bytes
 
 -- ---- said, so read
 
-nodes_unless : (count : ℕ) → 1 ≤ count → count ≤ 9 → unless (eqb count 0 || ltb 9 count) OutOfRange (Nodes count) ≡ okay (Nodes count)
-nodes_unless count low high =
+count_unless : (count : ℕ) → 1 ≤ count → count ≤ 9 → unless (eqb count 0 || ltb 9 count) OutOfRange count ≡ okay count
+count_unless count low high =
     let zero : eqb count 0 ≡ false = grind (arith) in
     let nine : ltb 9 count ≡ false = grind (arith) in
-    ap (λ b. unless (b || ltb 9 count) OutOfRange (Nodes count)) zero ∙ ap (λ b. unless (false || b) OutOfRange (Nodes count)) nine
+    ap (λ b. unless (b || ltb 9 count) OutOfRange count) zero ∙ ap (λ b. unless (false || b) OutOfRange count) nine
+
+count_said : (count : ℕ) (words : List (List ℕ)) → AreWords (Number count ∷ []) words → IsCount count → count_in words ≡ okay count
+count_said count words h allowed =
+    then_okay (one_number words) count (λ n. unless (eqb n 0 || ltb 9 n) OutOfRange n) (one_said count words h)
+    ∙ count_unless count allowed.0 allowed.1
 
 -- an event's words are read as that event, behind no word that begins another line
 happens_first : (event : ScriptEvent) (words : List (List ℕ)) → line_in (verb_word event ∷ words) ≡ then_by (event_in (verb_word event ∷ words)) (λ e. okay (Happens e))
 happens_first (events.Add n g) words = refl
 happens_first (events.Init n g vs ls) words = refl
 happens_first (events.Propose n g t) words = refl
+happens_first (events.Put n g k v) words = refl
+happens_first (events.Get n g k) words = refl
+happens_first (events.Drop n g k) words = refl
 happens_first (events.Elect n g) words = refl
 happens_first (events.Heartbeat n g) words = refl
 happens_first (events.Lost n g t) words = refl
@@ -191,9 +210,9 @@ line_said : (line : ScriptLine) (words : List (List ℕ)) → words ≢ [] → A
 line_said line [] some h allowed = absurd (some refl)
 line_said Skipped (word ∷ words) some h allowed = absurd h
 line_said (Nodes count) (word ∷ words) some h allowed =
-    after_first (codes "nodes") word words (Nodes count) h.0
-    (then_okay (one_number words) count (λ n. unless (eqb n 0 || ltb 9 n) OutOfRange (Nodes n)) (one_said count words h.1)
-    ∙ nodes_unless count allowed.0 allowed.1)
+    after_first (codes "nodes") word words (Nodes count) h.0 (then_okay (count_in words) count (λ n. okay (Nodes n)) (count_said count words h.1 allowed))
+line_said (Kv count) (word ∷ words) some h allowed =
+    after_first (codes "kv") word words (Kv count) h.0 (then_okay (count_in words) count (λ n. okay (Kv n)) (count_said count words h.1 allowed))
 line_said (Now tick) (word ∷ words) some h allowed =
     after_first (codes "now") word words (Now tick) h.0 (then_okay (one_number words) tick (λ n. okay (Now n)) (one_said tick words h.1))
 line_said (Total node group) (word ∷ words) some h allowed =
@@ -222,6 +241,9 @@ no_comment_event : (event : ScriptEvent) → eqb (first_of (verb_word event ∷ 
 no_comment_event (events.Add n g) = refl
 no_comment_event (events.Init n g vs ls) = refl
 no_comment_event (events.Propose n g t) = refl
+no_comment_event (events.Put n g k v) = refl
+no_comment_event (events.Get n g k) = refl
+no_comment_event (events.Drop n g k) = refl
 no_comment_event (events.Elect n g) = refl
 no_comment_event (events.Heartbeat n g) = refl
 no_comment_event (events.Lost n g t) = refl
@@ -243,6 +265,7 @@ no_comment : (line : ScriptLine) (words : List (List ℕ)) → words ≢ [] → 
 no_comment line [] some h = absurd (some refl)
 no_comment Skipped (word ∷ words) some h = absurd h
 no_comment (Nodes count) (word ∷ words) some h = ap (λ w. eqb (first_of (w ∷ words)) 35) h.0
+no_comment (Kv count) (word ∷ words) some h = ap (λ w. eqb (first_of (w ∷ words)) 35) h.0
 no_comment (Now tick) (word ∷ words) some h = ap (λ w. eqb (first_of (w ∷ words)) 35) h.0
 no_comment (Total node group) (word ∷ words) some h = ap (λ w. eqb (first_of (w ∷ words)) 35) h.0
 no_comment (Fuse calls event) (word ∷ words) some h = ap (λ w. eqb (first_of (w ∷ words)) 35) h.0
@@ -278,6 +301,7 @@ skipped_said (byte ∷ bytes) h =
 text_said : (line : ScriptLine) (bytes : List ℕ) → Says line bytes → text_in bytes ≡ okay line
 text_said Skipped bytes h = skipped_said bytes h
 text_said (Nodes count) bytes h = words_said (Nodes count) bytes h
+text_said (Kv count) bytes h = words_said (Kv count) bytes h
 text_said (Now tick) bytes h = words_said (Now tick) bytes h
 text_said (Total node group) bytes h = words_said (Total node group) bytes h
 text_said (Happens event) bytes h = words_said (Happens event) bytes h

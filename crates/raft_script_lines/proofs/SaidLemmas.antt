@@ -1,5 +1,8 @@
 -- An event that the grammar spells is read.
-use Rattle.std.proofs.Common.{◌≡◌, ℕ, ◌<◌, false, ◌||◌, List, [], ◌∷◌, ◌++◌, length, map, Option, Some, None, Err, refl, ◌∙◌, ap, cond, codes, arith}
+use Rattle.std.proofs.Common.{◌≡◌, ℕ, ◌<◌, ◌≤◌, ltb, Bool, false, ◌||◌, List, [], ◌∷◌, ◌++◌, length, map, Option, Some, None, Err, refl, ◌∙◌, ap, cond, codes, arith}
+use Rattle.std.specs.Str.{bytes_eq}
+use Rattle.std.proofs.lemmas.Bool.{false_from_ne_true}
+use Rattle.std.proofs.lemmas.Slice.Eq.{bytes_eq-Decides}
 use Rattle.raft_script_lines.specs.declared.script_line.CrashChoice.{CrashChoice}
 use Rattle.raft_script_lines.specs.declared.script_line.CrashChoice.TheVariants.{Least, Most}
 use Rattle.raft_script_lines.specs.declared.script_line.ScriptEvent.{ScriptEvent}
@@ -8,9 +11,11 @@ use Rattle.raft_script_lines.specs.declared.verb.WordOfTwo.{WordOfTwo}
 use Rattle.raft_script_lines.specs.declared.verb.WordOfTwo.TheVariants.{Add, Elect, Heartbeat, Snapshot, Reopen}
 use Rattle.raft_script_lines.specs.declared.verb.WordOfThree.{WordOfThree}
 use Rattle.raft_script_lines.specs.declared.verb.WordOfThree.TheVariants.{Propose, Lost, Purge}
-use Rattle.raft_script_lines.specs.declared.no_event.NoEvent.TheVariants.{WrongCount, NotANumber, IdTwice}
-use Rattle.raft_script_lines.specs.Grammar.{Word, Text, Number, AreWords, learners_behind, cut_behind, choice_word, event_words, IsAllowedEvent, IsIdList}
-use Rattle.raft_script_lines.specs.Reading.{then_by, given, unless, one_number, two_numbers, three_numbers, before_slash, behind_slash, are_missing, or_none, event_with_two, event_with_three, init_in, init_with, voters_in, voters_with, addr_in, deliver_in, choice_in, crash_in, event_in}
+use Rattle.raft_script_lines.specs.declared.verb.WordOfKey.{WordOfKey}
+use Rattle.raft_script_lines.specs.declared.verb.WordOfKey.TheVariants.{Get, Drop}
+use Rattle.raft_script_lines.specs.declared.no_event.NoEvent.TheVariants.{WrongCount, NotANumber, OutOfRange, IdTwice}
+use Rattle.raft_script_lines.specs.Grammar.{Word, Text, Number, AreWords, learners_behind, cut_behind, choice_word, event_words, IsAllowedEvent, IsIdList, IsKey, IsValue}
+use Rattle.raft_script_lines.specs.Reading.{then_by, given, unless, one_number, two_numbers, three_numbers, before_slash, behind_slash, are_missing, or_none, event_with_two, event_with_three, event_with_key, key_event_in, key_in, put_in, value_in, init_in, init_with, voters_in, voters_with, addr_in, deliver_in, choice_in, crash_in, event_in}
 use Rattle.raft_script_lines.specs.Words.{no_words, number_of, numbers_of, has_twice}
 use Rattle.raft_script_lines.proofs.NumberLemmas.{okay, then_given, then_unless, then_okay, one_said, two_said, three_said, list_said, lists_said, ListsAre}
 
@@ -63,6 +68,41 @@ addr_said node group id address (n ∷ g ∷ i ∷ text ∷ []) h =
     ∙ ap (λ t. okay (events.Addr node group id t)) h.1.1.1.0))
 addr_said node group id address (n ∷ g ∷ i ∷ text ∷ more ∷ words) h = absurd h.1.1.1.1
 
+not_over : (limit : ℕ) (word : List ℕ) → length word ≤ limit → ltb limit (length word) ≡ false
+not_over limit word h = grind (arith)
+
+key_said : (k key : List ℕ) → k ≡ key → IsKey key → key_in k ≡ okay key
+key_said k key same short = ap key_in same ∙ ap (λ b. unless b OutOfRange key) (not_over 255 key short)
+
+value_said : (v value : List ℕ) → v ≡ value → IsValue value → value_in v ≡ okay value
+value_said v value same fits =
+    let other : bytes_eq value (codes "-") ≡ false = false_from_ne_true (bytes_eq value (codes "-")) (λ e. fits.1 ((bytes_eq-Decides value (codes "-")).0 e)) in
+    ap value_in same
+    ∙ ap (λ b. unless (b || bytes_eq value (codes "-")) OutOfRange value) (not_over 199 value fits.0)
+    ∙ ap (λ b. unless (false || b) OutOfRange value) other
+
+put_said : (node group : ℕ) (key value : List ℕ) (words : List (List ℕ)) → AreWords (Number node ∷ Number group ∷ Text key ∷ Text value ∷ []) words → IsKey key → IsValue value → put_in words ≡ okay (events.Put node group key value)
+put_said node group key value [] h short fits = absurd h
+put_said node group key value (n ∷ []) h short fits = absurd h.1
+put_said node group key value (n ∷ g ∷ []) h short fits = absurd h.1.1
+put_said node group key value (n ∷ g ∷ k ∷ []) h short fits = absurd h.1.1.1
+put_said node group key value (n ∷ g ∷ k ∷ v ∷ []) h short fits =
+    then_given NotANumber (number_of n) node (λ a. then_by (given NotANumber (number_of g)) (λ b. then_by (key_in k) (λ c. then_by (value_in v) (λ d. okay (events.Put a b c d))))) h.0
+    ∙ (then_given NotANumber (number_of g) group (λ b. then_by (key_in k) (λ c. then_by (value_in v) (λ d. okay (events.Put node b c d)))) h.1.0
+    ∙ (then_okay (key_in k) key (λ c. then_by (value_in v) (λ d. okay (events.Put node group c d))) (key_said k key h.1.1.0 short)
+    ∙ then_okay (value_in v) value (λ d. okay (events.Put node group key d)) (value_said v value h.1.1.1.0 fits)))
+put_said node group key value (n ∷ g ∷ k ∷ v ∷ more ∷ words) h short fits = absurd h.1.1.1.1
+
+key_event_said : (w : WordOfKey) (node group : ℕ) (key : List ℕ) (words : List (List ℕ)) → AreWords (Number node ∷ Number group ∷ Text key ∷ []) words → IsKey key → key_event_in w words ≡ okay (event_with_key w node group key)
+key_event_said w node group key [] h short = absurd h
+key_event_said w node group key (n ∷ []) h short = absurd h.1
+key_event_said w node group key (n ∷ g ∷ []) h short = absurd h.1.1
+key_event_said w node group key (n ∷ g ∷ k ∷ []) h short =
+    then_given NotANumber (number_of n) node (λ a. then_by (given NotANumber (number_of g)) (λ b. then_by (key_in k) (λ c. okay (event_with_key w a b c)))) h.0
+    ∙ (then_given NotANumber (number_of g) group (λ b. then_by (key_in k) (λ c. okay (event_with_key w node b c))) h.1.0
+    ∙ then_okay (key_in k) key (λ c. okay (event_with_key w node group c)) (key_said k key h.1.1.0 short))
+key_event_said w node group key (n ∷ g ∷ k ∷ more ∷ words) h short = absurd h.1.1.1
+
 deliver_said : (group number : ℕ) (cut : Option ℕ) (words : List (List ℕ)) → AreWords (Number group ∷ Number number ∷ cut_behind cut) words → deliver_in words ≡ okay (events.Deliver group number cut)
 deliver_said group number cut [] h = absurd h
 deliver_said group number cut (g ∷ []) h = absurd h.1
@@ -97,6 +137,9 @@ pub event_said : (event : ScriptEvent) (words : List (List ℕ)) → AreWords (e
 event_said (events.Add n g) [] h allowed = absurd h
 event_said (events.Init n g vs ls) [] h allowed = absurd h
 event_said (events.Propose n g t) [] h allowed = absurd h
+event_said (events.Put n g k v) [] h allowed = absurd h
+event_said (events.Get n g k) [] h allowed = absurd h
+event_said (events.Drop n g k) [] h allowed = absurd h
 event_said (events.Elect n g) [] h allowed = absurd h
 event_said (events.Heartbeat n g) [] h allowed = absurd h
 event_said (events.Lost n g t) [] h allowed = absurd h
@@ -111,6 +154,9 @@ event_said (events.Reopen n workers) [] h allowed = absurd h
 event_said (events.Add n g) (w ∷ ws) h allowed = after_first (codes "add") w ws (events.Add n g) h.0 (two_made Add n g ws h.1)
 event_said (events.Init n g vs ls) (w ∷ ws) h allowed = after_first (codes "init") w ws (events.Init n g vs ls) h.0 (init_said n g vs ls ws h.1 allowed)
 event_said (events.Propose n g t) (w ∷ ws) h allowed = after_first (codes "propose") w ws (events.Propose n g t) h.0 (three_made Propose n g t ws h.1)
+event_said (events.Put n g k v) (w ∷ ws) h allowed = after_first (codes "put") w ws (events.Put n g k v) h.0 (put_said n g k v ws h.1 allowed.0 allowed.1)
+event_said (events.Get n g k) (w ∷ ws) h allowed = after_first (codes "get") w ws (events.Get n g k) h.0 (key_event_said Get n g k ws h.1 allowed)
+event_said (events.Drop n g k) (w ∷ ws) h allowed = after_first (codes "drop") w ws (events.Drop n g k) h.0 (key_event_said Drop n g k ws h.1 allowed)
 event_said (events.Elect n g) (w ∷ ws) h allowed = after_first (codes "elect") w ws (events.Elect n g) h.0 (two_made Elect n g ws h.1)
 event_said (events.Heartbeat n g) (w ∷ ws) h allowed = after_first (codes "heartbeat") w ws (events.Heartbeat n g) h.0 (two_made Heartbeat n g ws h.1)
 event_said (events.Lost n g t) (w ∷ ws) h allowed = after_first (codes "lost") w ws (events.Lost n g t) h.0 (three_made Lost n g t ws h.1)
@@ -129,6 +175,9 @@ abbrev pub verb_word : ScriptEvent → List ℕ
 verb_word (events.Add n g) = codes "add"
 verb_word (events.Init n g vs ls) = codes "init"
 verb_word (events.Propose n g t) = codes "propose"
+verb_word (events.Put n g k v) = codes "put"
+verb_word (events.Get n g k) = codes "get"
+verb_word (events.Drop n g k) = codes "drop"
 verb_word (events.Elect n g) = codes "elect"
 verb_word (events.Heartbeat n g) = codes "heartbeat"
 verb_word (events.Lost n g t) = codes "lost"
@@ -145,6 +194,9 @@ pub first_of_event : (event : ScriptEvent) → (args : List Word) × (event_word
 first_of_event (events.Add n g) = (_, refl)
 first_of_event (events.Init n g vs ls) = (_, refl)
 first_of_event (events.Propose n g t) = (_, refl)
+first_of_event (events.Put n g k v) = (_, refl)
+first_of_event (events.Get n g k) = (_, refl)
+first_of_event (events.Drop n g k) = (_, refl)
 first_of_event (events.Elect n g) = (_, refl)
 first_of_event (events.Heartbeat n g) = (_, refl)
 first_of_event (events.Lost n g t) = (_, refl)

@@ -1,14 +1,14 @@
 -- The grammar of a script's lines: which bytes spell which line.
-use Rattle.std.specs.Prelude.{◌≡◌, ℕ, ◌<◌, ◌≤◌, false, List, [], ◌∷◌, ◌++◌, length, map, Option, Some, None, codes}
+use Rattle.std.specs.Prelude.{◌≡◌, ◌≢◌, ℕ, ◌<◌, ◌≤◌, false, List, [], ◌∷◌, ◌++◌, length, map, Option, Some, None, codes}
 use Rattle.std.specs.List.{list_any}
 use Rattle.std.specs.Str.{IsUtf8}
 use Rattle.raft_script_lines.specs.declared.script_line.CrashChoice.{CrashChoice}
 use Rattle.raft_script_lines.specs.declared.script_line.CrashChoice.TheVariants.{Least, Most}
 use Rattle.raft_script_lines.specs.declared.script_line.ScriptEvent.{ScriptEvent}
-use Rattle.raft_script_lines.specs.declared.script_line.ScriptEvent.TheVariants.{Add, Init, Propose, Elect, Heartbeat, Lost, Snapshot, Purge, Addr, Voters, Deliver, Clean, Crash, Reopen}
+use Rattle.raft_script_lines.specs.declared.script_line.ScriptEvent.TheVariants.{Add, Init, Propose, Put, Get, Drop, Elect, Heartbeat, Lost, Snapshot, Purge, Addr, Voters, Deliver, Clean, Crash, Reopen}
 use Rattle.raft_script_lines.specs.declared.script_line.ScriptLine.{ScriptLine}
-use Rattle.raft_script_lines.specs.declared.script_line.ScriptLine.TheVariants.{Skipped, Nodes, Now, Total, Happens, Fuse}
-use Rattle.raft_script_lines.specs.Words.{words_of, is_empty_word, longest_line, number_of, has_twice}
+use Rattle.raft_script_lines.specs.declared.script_line.ScriptLine.TheVariants.{Skipped, Nodes, Kv, Now, Total, Happens, Fuse}
+use Rattle.raft_script_lines.specs.Words.{words_of, is_empty_word, longest_key, longest_line, longest_value, number_of, has_twice}
 
 -- what a word has to be
 pub data Word : Type 0 where
@@ -47,6 +47,10 @@ event_words (Add node group) = Text (codes "add") ∷ Number node ∷ Number gro
 event_words (Init node group voters learners) =
     Text (codes "init") ∷ Number node ∷ Number group ∷ (map Number voters ++ learners_behind learners)
 event_words (Propose node group amount) = Text (codes "propose") ∷ Number node ∷ Number group ∷ Number amount ∷ []
+event_words (Put node group key value) =
+    Text (codes "put") ∷ Number node ∷ Number group ∷ Text key ∷ Text value ∷ []
+event_words (Get node group key) = Text (codes "get") ∷ Number node ∷ Number group ∷ Text key ∷ []
+event_words (Drop node group key) = Text (codes "drop") ∷ Number node ∷ Number group ∷ Text key ∷ []
 event_words (Elect node group) = Text (codes "elect") ∷ Number node ∷ Number group ∷ []
 event_words (Heartbeat node group) = Text (codes "heartbeat") ∷ Number node ∷ Number group ∷ []
 event_words (Lost node group peer) = Text (codes "lost") ∷ Number node ∷ Number group ∷ Number peer ∷ []
@@ -63,6 +67,7 @@ event_words (Reopen node workers) = Text (codes "reopen") ∷ Number node ∷ Nu
 abbrev pub line_words : ScriptLine → List Word
 line_words Skipped = []
 line_words (Nodes count) = Text (codes "nodes") ∷ Number count ∷ []
+line_words (Kv count) = Text (codes "kv") ∷ Number count ∷ []
 line_words (Now tick) = Text (codes "now") ∷ Number tick ∷ []
 line_words (Total node group) = Text (codes "total") ∷ Number node ∷ Number group ∷ []
 line_words (Happens event) = event_words event
@@ -74,13 +79,29 @@ line_words (Fuse calls event) = Text (codes "fuse") ∷ Number calls ∷ event_w
 abbrev pub IsIdList : List ℕ → Type 0
 IsIdList ids = (0 < length ids) × (has_twice ids ≡ false)
 
+-- a word has a byte at least, and so has a key
+abbrev pub IsKey : List ℕ → Type 0
+IsKey key = length key ≤ longest_key
+
+-- `-` stands for no value
+abbrev pub IsValue : List ℕ → Type 0
+IsValue value = (length value ≤ longest_value) × (value ≢ codes "-")
+
 abbrev pub IsAllowedEvent : ScriptEvent → Type 0
+IsAllowedEvent (Put node group key value) = IsKey key × IsValue value
+IsAllowedEvent (Get node group key) = IsKey key
+IsAllowedEvent (Drop node group key) = IsKey key
 IsAllowedEvent (Init node group voters learners) = IsIdList voters × (has_twice learners ≡ false)
 IsAllowedEvent (Voters node group ids) = IsIdList ids
 IsAllowedEvent _ = Unit {0}
 
+-- as many nodes as a cluster may have
+abbrev pub IsCount : ℕ → Type 0
+IsCount count = (1 ≤ count) × (count ≤ 9)
+
 abbrev pub IsAllowed : ScriptLine → Type 0
-IsAllowed (Nodes count) = (1 ≤ count) × (count ≤ 9)
+IsAllowed (Nodes count) = IsCount count
+IsAllowed (Kv count) = IsCount count
 IsAllowed (Happens event) = IsAllowedEvent event
 IsAllowed (Fuse calls event) = (1 ≤ calls) × IsAllowedEvent event
 IsAllowed _ = Unit {0}

@@ -7,16 +7,18 @@ use Rattle.raft_script_lines.specs.declared.script_line.CrashChoice.TheVariants.
 use Rattle.raft_script_lines.specs.declared.script_line.ScriptEvent.{ScriptEvent}
 use Rattle.raft_script_lines.specs.declared.script_line.ScriptEvent.TheVariants as events
 use Rattle.raft_script_lines.specs.declared.script_line.ScriptLine.{ScriptLine}
-use Rattle.raft_script_lines.specs.declared.script_line.ScriptLine.TheVariants.{Skipped, Nodes, Now, Total, Happens, Fuse}
+use Rattle.raft_script_lines.specs.declared.script_line.ScriptLine.TheVariants.{Skipped, Nodes, Kv, Now, Total, Happens, Fuse}
 use Rattle.raft_script_lines.specs.declared.verb.Verb.{Verb}
 use Rattle.raft_script_lines.specs.declared.verb.Verb.TheVariants as verbs
 use Rattle.raft_script_lines.specs.declared.verb.WordOfTwo.{WordOfTwo}
 use Rattle.raft_script_lines.specs.declared.verb.WordOfTwo.TheVariants.{Add, Elect, Heartbeat, Snapshot, Reopen}
 use Rattle.raft_script_lines.specs.declared.verb.WordOfThree.{WordOfThree}
 use Rattle.raft_script_lines.specs.declared.verb.WordOfThree.TheVariants.{Propose, Lost, Purge}
+use Rattle.raft_script_lines.specs.declared.verb.WordOfKey.{WordOfKey}
+use Rattle.raft_script_lines.specs.declared.verb.WordOfKey.TheVariants.{Get, Drop}
 use Rattle.raft_script_lines.specs.declared.no_event.NoEvent.{NoEvent}
 use Rattle.raft_script_lines.specs.declared.no_event.NoEvent.TheVariants.{TooLong, NotUtf8, SpareSpace, UnknownWord, WrongCount, NotANumber, OutOfRange, IdTwice, UnknownChoice}
-use Rattle.raft_script_lines.specs.Words.{words_of, no_words, is_empty_word, longest_line, number_of, numbers_of, has_twice}
+use Rattle.raft_script_lines.specs.Words.{words_of, no_words, is_empty_word, longest_key, longest_line, longest_value, number_of, numbers_of, has_twice}
 use Rattle.raft_script_lines.specs.Verbs.{verb_of}
 
 -- a reading that goes on where it found no reason
@@ -89,6 +91,14 @@ lacks_list words = no_words (before_slash words) || are_missing (behind_slash wo
 abbrev pub once_each : List ℕ → Result (List ℕ) NoEvent
 once_each ids = unless (has_twice ids) IdTwice ids
 
+-- ---- keys and values
+
+abbrev pub key_in : List ℕ → Result (List ℕ) NoEvent
+key_in word = unless (nat_lt longest_key (length word)) OutOfRange word
+
+abbrev pub value_in : List ℕ → Result (List ℕ) NoEvent
+value_in word = unless (nat_lt longest_value (length word) || bytes_eq word (codes "-")) OutOfRange word
+
 -- ---- events
 
 abbrev pub event_with_two : WordOfTwo → ℕ → ℕ → ScriptEvent
@@ -102,6 +112,32 @@ abbrev pub event_with_three : WordOfThree → ℕ → ℕ → ℕ → ScriptEven
 event_with_three Propose node group amount = events.Propose node group amount
 event_with_three Lost node group peer = events.Lost node group peer
 event_with_three Purge node group index = events.Purge node group index
+
+abbrev pub event_with_key : WordOfKey → ℕ → ℕ → List ℕ → ScriptEvent
+event_with_key Get node group key = events.Get node group key
+event_with_key Drop node group key = events.Drop node group key
+
+abbrev pub put_with : List ℕ → List ℕ → List ℕ → List ℕ → Result ScriptEvent NoEvent
+put_with n g k v =
+    then_by (number_in n) (λ node. then_by (number_in g) (λ group. then_by (key_in k) (λ key. then_by (value_in v) (λ value.
+    Ok (events.Put node group key value)))))
+
+abbrev pub put_in : List (List ℕ) → Result ScriptEvent NoEvent
+put_in [] = Err WrongCount
+put_in (n ∷ []) = Err WrongCount
+put_in (n ∷ g ∷ []) = Err WrongCount
+put_in (n ∷ g ∷ k ∷ []) = Err WrongCount
+put_in (n ∷ g ∷ k ∷ v ∷ []) = put_with n g k v
+put_in (n ∷ g ∷ k ∷ v ∷ more ∷ words) = Err WrongCount
+
+abbrev pub key_event_in : WordOfKey → List (List ℕ) → Result ScriptEvent NoEvent
+key_event_in word [] = Err WrongCount
+key_event_in word (n ∷ []) = Err WrongCount
+key_event_in word (n ∷ g ∷ []) = Err WrongCount
+key_event_in word (n ∷ g ∷ k ∷ []) =
+    then_by (number_in n) (λ node. then_by (number_in g) (λ group. then_by (key_in k) (λ key.
+    Ok (event_with_key word node group key))))
+key_event_in word (n ∷ g ∷ k ∷ more ∷ words) = Err WrongCount
 
 abbrev pub init_with : List ℕ → List ℕ → List (List ℕ) → Result ScriptEvent NoEvent
 init_with n g lists =
@@ -163,6 +199,8 @@ abbrev pub event_after : Option Verb → List (List ℕ) → Result ScriptEvent 
 event_after None words = Err UnknownWord
 event_after (Some (verbs.Two word)) words = then_by (two_numbers words) (λ n. Ok (event_with_two word n.0 n.1))
 event_after (Some (verbs.Three word)) words = then_by (three_numbers words) (λ n. Ok (event_with_three word n.0 n.1 n.2))
+event_after (Some (verbs.Key word)) words = key_event_in word words
+event_after (Some verbs.Put) words = put_in words
 event_after (Some verbs.Init) words = init_in words
 event_after (Some verbs.Addr) words = addr_in words
 event_after (Some verbs.Voters) words = voters_in words
@@ -177,9 +215,9 @@ event_in (word ∷ words) = event_after (verb_of word) words
 
 -- ---- lines
 
-abbrev pub nodes_in : List (List ℕ) → Result ScriptLine NoEvent
-nodes_in words =
-    then_by (one_number words) (λ count. unless (count == 0 || nat_lt 9 count) OutOfRange (Nodes count))
+-- how many nodes there are to be
+abbrev pub count_in : List (List ℕ) → Result ℕ NoEvent
+count_in words = then_by (one_number words) (λ count. unless (count == 0 || nat_lt 9 count) OutOfRange count)
 
 abbrev pub fuse_with : List ℕ → List (List ℕ) → Result ScriptLine NoEvent
 fuse_with k words =
@@ -195,11 +233,12 @@ fuse_in (k ∷ words) = if no_words words then Err WrongCount else fuse_with k w
 abbrev pub line_in : List (List ℕ) → Result ScriptLine NoEvent
 line_in [] = Err UnknownWord
 line_in (word ∷ words) =
-    if bytes_eq word (codes "nodes") then nodes_in words
+    if bytes_eq word (codes "nodes") then then_by (count_in words) (λ count. Ok (Nodes count))
+    else (if bytes_eq word (codes "kv") then then_by (count_in words) (λ count. Ok (Kv count))
     else (if bytes_eq word (codes "now") then then_by (one_number words) (λ tick. Ok (Now tick))
     else (if bytes_eq word (codes "total") then then_by (two_numbers words) (λ n. Ok (Total n.0 n.1))
     else (if bytes_eq word (codes "fuse") then fuse_in words
-    else then_by (event_in (word ∷ words)) (λ event. Ok (Happens event)))))
+    else then_by (event_in (word ∷ words)) (λ event. Ok (Happens event))))))
 
 abbrev pub line_with : List (List ℕ) → Result ScriptLine NoEvent
 line_with words = if list_any is_empty_word words then Err SpareSpace else line_in words

@@ -2,9 +2,10 @@
 use Rattle.std.specs.Prelude.{ℕ, List, [], ◌∷◌, Option, Some, None, if◌then◌else◌, codes}
 use Rattle.std.specs.Str.{bytes_eq}
 use Rattle.raft_script_lines.specs.declared.verb.Verb.{Verb}
-use Rattle.raft_script_lines.specs.declared.verb.Verb.TheVariants.{Two, Three, Init, Addr, Voters, Deliver, Clean, Crash}
+use Rattle.raft_script_lines.specs.declared.verb.Verb.TheVariants.{Two, Three, Key, Put, Init, Addr, Voters, Deliver, Clean, Crash}
 use Rattle.raft_script_lines.specs.declared.verb.WordOfTwo.TheVariants.{Add, Elect, Heartbeat, Snapshot, Reopen}
 use Rattle.raft_script_lines.specs.declared.verb.WordOfThree.TheVariants.{Propose, Lost, Purge}
+use Rattle.raft_script_lines.specs.declared.verb.WordOfKey.TheVariants.{Get, Drop}
 
 -- the verb that a word of this list spells
 abbrev pub found : List ℕ → List (List ℕ × Verb) → Option Verb
@@ -21,6 +22,9 @@ verbs =
     ∷ (codes "propose", Three Propose)
     ∷ (codes "lost", Three Lost)
     ∷ (codes "purge", Three Purge)
+    ∷ (codes "put", Put)
+    ∷ (codes "get", Key Get)
+    ∷ (codes "drop", Key Drop)
     ∷ (codes "init", Init)
     ∷ (codes "addr", Addr)
     ∷ (codes "voters", Voters)

@@ -8,6 +8,13 @@ use Rattle.std.specs.Str.Parse.{digits_value}
 abbrev pub longest_line : ℕ
 longest_line = 65536
 
+-- the most bytes of a key and of a value
+abbrev pub longest_key : ℕ
+longest_key = 255
+
+abbrev pub longest_value : ℕ
+longest_value = 199
+
 -- the words of a line: each space parts two words, which may be empty
 abbrev pub words_of : List ℕ → List (List ℕ)
 words_of line = slice_split (λ byte. byte == 32) line

@@ -2,16 +2,16 @@
 ghost use Rattle.std.specs.Prelude.{◌≡◌, Some, None};
 ghost use Rattle.std.specs.Option.{option_map};
 ghost use Rattle.raft_script_lines.specs.Words.{words_of, words_after};
-ghost use Rattle.raft_script_lines.specs.Reading.{init_in, voters_in, addr_in, deliver_in, choice_in, crash_in, event_after, event_in};
+ghost use Rattle.raft_script_lines.specs.Reading.{init_in, voters_in, addr_in, put_in, key_event_in, deliver_in, choice_in, crash_in, event_after, event_in};
 ghost use Rattle.raft_script_lines.specs.Outcome.{Tells};
 
 use crate::lists::{first_list, second_list};
 use crate::no_event::{NoEvent, ReadLineError};
 use crate::script_line::{CrashChoice, ScriptEvent};
-use crate::verb::{Verb, event_with_three, event_with_two, verb_in};
+use crate::verb::{Verb, WordOfKey, event_with_key, event_with_three, event_with_two, verb_in};
 use crate::words::{
-    first_word, ids_in, last_word, next_word, number_in, one_number, three_numbers, two_numbers,
-    words_left,
+    first_word, ids_in, key_in, last_word, next_word, number_in, one_number, three_numbers,
+    two_numbers, value_in, words_left,
 };
 use raft_values::Bytes;
 use std::alloc::Global;
@@ -76,6 +76,43 @@ fn addr_in(alloc: Global, words: Option<&str>) -> Result<ScriptEvent, ReadLineEr
     })
 }
 
+// `N G KEY VALUE`
+fn put_in(alloc: Global, words: Option<&str>) -> Result<ScriptEvent, ReadLineError>
+    ensures { Tells result (put_in (words_after (option_map (λ text. text.now) words.entry))) }
+{
+    let (node, words) = next_word(words)?;
+    let (group, words) = next_word(words)?;
+    let (key, words) = next_word(words)?;
+    let value = last_word(words)?;
+    let node = number_in(node)?;
+    let group = number_in(group)?;
+    let key = key_in(alloc, key)?;
+    let value = value_in(alloc, value)?;
+    Ok(ScriptEvent::Put {
+        node,
+        group,
+        key,
+        value,
+    })
+}
+
+// `N G KEY`
+fn key_event_in(
+    alloc: Global,
+    word: WordOfKey,
+    words: Option<&str>,
+) -> Result<ScriptEvent, ReadLineError>
+    ensures { Tells result (key_event_in word (words_after (option_map (λ text. text.now) words.entry))) }
+{
+    let (node, words) = next_word(words)?;
+    let (group, words) = next_word(words)?;
+    let key = last_word(words)?;
+    let node = number_in(node)?;
+    let group = number_in(group)?;
+    let key = key_in(alloc, key)?;
+    Ok(event_with_key(word, node, group, key))
+}
+
 // `G NUMBER [CUT]`
 #[tactic(auto, using(crate::proofs::WordLemmas::words_empty))]
 fn deliver_in(words: Option<&str>) -> Result<ScriptEvent, NoEvent>
@@ -131,6 +168,8 @@ fn event_after(alloc: Global, verb: Verb, words: Option<&str>) -> Result<ScriptE
             let (node, group, third) = three_numbers(words)?;
             Ok(event_with_three(word, node, group, third))
         }
+        Verb::Key(word) => key_event_in(alloc, word, words),
+        Verb::Put => put_in(alloc, words),
         Verb::Init => init_in(alloc, words),
         Verb::Addr => addr_in(alloc, words),
         Verb::Voters => voters_in(alloc, words),

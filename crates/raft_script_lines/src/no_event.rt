@@ -25,7 +25,8 @@ pub enum NoEvent {
     /// A word that has to be a number isn't one: decimal digits, below 2^64.
     #[error("not a number")]
     NotANumber,
-    /// `nodes` wants 1 to 9, and `fuse` at least 1.
+    /// `nodes` and `kv` want 1 to 9, and `fuse` at least 1. A key has at most 255 bytes, a value at
+    /// most 199, and a value isn't `-`.
     #[error("out of range")]
     OutOfRange,
     /// A list has an id twice.

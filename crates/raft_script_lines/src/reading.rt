@@ -2,7 +2,7 @@
 ghost use Rattle.std.specs.Prelude.{◌≡◌, IfOk, IfErr};
 ghost use Rattle.std.specs.Option.{option_map};
 ghost use Rattle.raft_script_lines.specs.Words.{words_of, words_after};
-ghost use Rattle.raft_script_lines.specs.Reading.{line_of, text_in, line_with, line_in, nodes_in, fuse_in};
+ghost use Rattle.raft_script_lines.specs.Reading.{line_of, text_in, line_with, line_in, count_in, fuse_in};
 ghost use Rattle.raft_script_lines.specs.Outcome.{Tells, SpellsOnly, IsWhyNot};
 
 use crate::events::event_in;
@@ -22,7 +22,7 @@ const MOST_NODES: u64 = 9;
 
 /// What the bytes of a line say, their newline not among them (own). It is `Ok` just for the
 /// spellings of a line. `NoEvent` has the first reason why the bytes are none; `Memory` says that
-/// memory was refused, which the lists of `init` and `voters` and the text of `addr` take.
+/// memory was refused, which lists, addresses, keys and values take.
 pub fn read_line(alloc: Global, bytes: &[u8]) -> Result<ScriptLine, ReadLineError>
     ensures ok { IfOk result (SpellsOnly bytes.now) }
     ensures err { IfErr result (IsWhyNot bytes.now) }
@@ -66,7 +66,14 @@ fn line_in(alloc: Global, text: &str) -> Result<ScriptLine, ReadLineError>
 {
     let (word, words) = first_word(text);
     match word {
-        "nodes" => Ok(nodes_in(words)?),
+        "nodes" => {
+            let count = count_in(words)?;
+            Ok(ScriptLine::Nodes { count })
+        }
+        "kv" => {
+            let count = count_in(words)?;
+            Ok(ScriptLine::Kv { count })
+        }
         "now" => {
             let tick = one_number(words)?;
             Ok(ScriptLine::Now { tick })
@@ -84,14 +91,14 @@ fn line_in(alloc: Global, text: &str) -> Result<ScriptLine, ReadLineError>
 }
 
 // `COUNT`
-fn nodes_in(words: Option<&str>) -> Result<ScriptLine, NoEvent>
-    ensures { result ≡ nodes_in (words_after (option_map (λ text. text.now) words.entry)) }
+fn count_in(words: Option<&str>) -> Result<u64, NoEvent>
+    ensures { result ≡ count_in (words_after (option_map (λ text. text.now) words.entry)) }
 {
     let count = one_number(words)?;
     if count == 0 || count > MOST_NODES {
         return Err(NoEvent::OutOfRange);
     }
-    Ok(ScriptLine::Nodes { count })
+    Ok(count)
 }
 
 // `K EVENT`

@@ -33,6 +33,25 @@ pub enum ScriptEvent {
         group: u64,
         amount: u64,
     },
+    /// `put N G KEY VALUE`: the command that gives the key this value.
+    Put {
+        node: u64,
+        group: u64,
+        key: Bytes,
+        value: Bytes,
+    },
+    /// `get N G KEY`: the command that asks for the key's value.
+    Get {
+        node: u64,
+        group: u64,
+        key: Bytes,
+    },
+    /// `drop N G KEY`: the command that takes the key out.
+    Drop {
+        node: u64,
+        group: u64,
+        key: Bytes,
+    },
     /// `elect N G`: the node stands for election.
     Elect {
         node: u64,
@@ -101,8 +120,10 @@ pub enum ScriptEvent {
 pub enum ScriptLine {
     /// An empty line, or a comment.
     Skipped,
-    /// `nodes COUNT`: begins a cluster of the nodes from 1 to that number.
+    /// `nodes COUNT`: begins a cluster of the nodes from 1 to that number, which add up amounts.
     Nodes { count: u64 },
+    /// `kv COUNT`: the same, of nodes that keep values by keys.
+    Kv { count: u64 },
     /// `now T`: from here on it is that tick.
     Now { tick: u64 },
     /// `total N G`: asks for the total of the group at the node.

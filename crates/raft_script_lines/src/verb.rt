@@ -1,9 +1,10 @@
 //! The words that events begin with.
 ghost use Rattle.std.specs.Prelude.{◌≡◌};
-ghost use Rattle.raft_script_lines.specs.Reading.{event_with_two, event_with_three};
+ghost use Rattle.raft_script_lines.specs.Reading.{event_with_key, event_with_two, event_with_three};
 ghost use Rattle.raft_script_lines.specs.Verbs.{verb_of};
 
 use crate::script_line::ScriptEvent;
+use raft_values::Bytes;
 
 /// Words with two numbers behind them (own).
 #[derive(Clone, Copy, Debug, PartialEq, Eq)]
@@ -23,11 +24,20 @@ pub enum WordOfThree {
     Purge,
 }
 
+/// Words with a node, a group and a key behind them (own).
+#[derive(Clone, Copy, Debug, PartialEq, Eq)]
+pub enum WordOfKey {
+    Get,
+    Drop,
+}
+
 /// The word that an event begins with (own).
 #[derive(Clone, Copy, PartialEq, Eq)]
 pub enum Verb {
     Two(WordOfTwo),
     Three(WordOfThree),
+    Key(WordOfKey),
+    Put,
     Init,
     Addr,
     Voters,
@@ -44,6 +54,9 @@ pub fn verb_in(word: &str) -> Option<Verb>
     match word {
         "deliver" => Some(Verb::Deliver),
         "propose" => Some(Verb::Three(WordOfThree::Propose)),
+        "put" => Some(Verb::Put),
+        "get" => Some(Verb::Key(WordOfKey::Get)),
+        "drop" => Some(Verb::Key(WordOfKey::Drop)),
         "add" => Some(Verb::Two(WordOfTwo::Add)),
         "elect" => Some(Verb::Two(WordOfTwo::Elect)),
         "heartbeat" => Some(Verb::Two(WordOfTwo::Heartbeat)),
@@ -97,5 +110,15 @@ pub fn event_with_three(word: WordOfThree, node: u64, group: u64, third: u64) ->
             group,
             index: third,
         },
+    }
+}
+
+/// The event with this word, for this group at this node, and the key.
+pub fn event_with_key(word: WordOfKey, node: u64, group: u64, key: Bytes) -> ScriptEvent
+    ensures { result ≡ event_with_key word node group key }
+{
+    match word {
+        WordOfKey::Get => ScriptEvent::Get { node, group, key },
+        WordOfKey::Drop => ScriptEvent::Drop { node, group, key },
     }
 }

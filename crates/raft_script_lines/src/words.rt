@@ -1,14 +1,22 @@
 //! Words of a text, one after the other, and the numbers that they name.
-ghost use Rattle.std.specs.Prelude.{◌≡◌, ◌≢◌, ◌<◌, ◌∷◌, ℕ, List, [], MatchOption, MatchResult, Some, None, get_or, length};
+ghost use Rattle.std.specs.Prelude.{◌≡◌, ◌≢◌, ◌<◌, ◌∷◌, ℕ, List, [], MatchOption, MatchResult, Some, None, codes, get_or, length};
+ghost use Rattle.std.specs.Str.{bytes_eq};
 ghost use Rattle.std.specs.List.{list_any};
 ghost use Rattle.std.specs.Option.{option_map};
 ghost use Rattle.raft_script_lines.specs.Words.{words_of, words_after, is_empty_word, number_of, numbers_of};
-ghost use Rattle.raft_script_lines.specs.Reading.{number_in, one_number, two_numbers, three_numbers, numbers_in};
+ghost use Rattle.raft_script_lines.specs.Reading.{key_in, number_in, one_number, two_numbers, three_numbers, numbers_in, value_in};
 ghost use Rattle.raft_script_lines.specs.Outcome.{Tells};
 
 use crate::id_list::IdList;
 use crate::no_event::{NoEvent, ReadLineError};
+use raft_values::Bytes;
 use std::alloc::Global;
+
+/// The most bytes of a key.
+pub const LONGEST_KEY: usize = 255;
+
+/// The most bytes of a value.
+pub const LONGEST_VALUE: usize = 199;
 
 // The place of the first space.
 fn space_in(bytes: &[u8]) -> Option<usize>
@@ -137,4 +145,30 @@ pub fn ids_in(alloc: Global, words: Option<&str>) -> Result<IdList, ReadLineErro
         left = rest;
     }
     Ok(ids)
+}
+
+/// The key that a word is.
+pub fn key_in(alloc: Global, word: &str) -> Result<Bytes, ReadLineError>
+    ensures { Tells result (key_in word.now) }
+{
+    if word.len() > LONGEST_KEY {
+        return Err(ReadLineError::NoEvent(NoEvent::OutOfRange));
+    }
+    Ok(Bytes::from_slice(alloc, word.as_bytes())?)
+}
+
+fn is_dash(word: &str) -> bool
+    ensures { result ≡ bytes_eq word.now (codes "-") }
+{
+    matches!(word, "-")
+}
+
+/// The value that a word is: `-` is none.
+pub fn value_in(alloc: Global, word: &str) -> Result<Bytes, ReadLineError>
+    ensures { Tells result (value_in word.now) }
+{
+    if word.len() > LONGEST_VALUE || is_dash(word) {
+        return Err(ReadLineError::NoEvent(NoEvent::OutOfRange));
+    }
+    Ok(Bytes::from_slice(alloc, word.as_bytes())?)
 }

@@ -32,6 +32,7 @@ fn kind_of(line: &ScriptLine) -> &'static str {
     match line {
         ScriptLine::Skipped => "skipped",
         ScriptLine::Nodes { .. } => "nodes",
+        ScriptLine::Kv { .. } => "kv",
         ScriptLine::Now { .. } => "now",
         ScriptLine::Total { .. } => "total",
         ScriptLine::Happens(_) => "an event",

@@ -11,5 +11,5 @@ use Rattle.raft_cluster_script.proofs.script.ScriptLineRunner.run_line.Goals as 
 pub returns-in-Ok : goal.returns-in-Ok
 returns-in-Ok g c =
     let read : line_of c.args.line.now ≡ Ok c.in-Ok.line = spelled_read c.args.line.now c.in-Ok.line c.in-Ok.ensures.ok.spelled in
-    let P : Result ScriptLine NoEvent → Type 0 = λ r. IfOk c.take.result (λ text. TakesRead g.N.ClusterNode.acts c.args.self.now r (option_map string_bytes text) c.take.new.self) in
-    subst P (sym read) c.take.ensures
+    let P : Result ScriptLine NoEvent → Type 0 = λ r. IfOk c.take_spoken.result (λ text. TakesRead g.N.ClusterNode.acts g.N.Machine.ScriptMachine.speech c.args.self.now r (option_map string_bytes text) c.take_spoken.new.self) in
+    subst P (sym read) c.take_spoken.ensures
