@@ -27,6 +27,7 @@ def kind_in_chart(body):
 def by_plain_rules(run):
     """Says of which group and kind each frame is by the plain program of the rules, which has to answer each line as
     was printed."""
+    run.has_kinds = True
     script, counts = Script(), {}
     for at, row in enumerate(run.rows):
         if not row.words:
@@ -136,7 +137,8 @@ class Openings:
             group, number = what.frame
             said = "was sent" if what.is_refused("C4") else "wasn't sent before"
             return self.run.wrong(at, f"frame #{number} of group {group} {said}: '{what.answer[:60]}'")
-        return self.run.wrong(at, f"#{what.number} isn't the next frame of its group: '{self.run.rows[at].answer[:60]}'")
+        said = self.run.rows[at].answer[:60]
+        return self.run.wrong(at, f"#{what.number} isn't the next frame of its group: '{said}'")
 
 
 def by_numbers(run):

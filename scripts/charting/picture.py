@@ -1,12 +1,11 @@
 """The picture of a run: what is drawn, the lower first."""
 
 from charting import pieces
-from charting.pieces import GREY, MONO, RED, TEXT, WIDE_MONO, half_of, plain, straight, tag, text_at, width_of
+from charting.pieces import GREY, MONO, RED, WIDE_MONO, half_of, plain, straight, tag, text_at, width_of
 from charting.places import MOST_CHARACTERS, Places, label_of, stubs_texts
 
 # Where the legend begins, how high a line of it is, and how wide a picture is at least.
-LEGEND_LEFT, LEGEND_ROOM, LEAST_WIDTH = 16.0, 20.0, 620.0
-HEAD_ROOM = 44.0
+LEGEND_LEFT, LEGEND_ROOM, LEAST_WIDTH = 16.0, 20.0, 700.0
 MOST_IN_LEGEND = 8
 # A comment with no more characters than this is drawn whole.
 MOST_IN_COMMENT = 120
@@ -15,7 +14,7 @@ MOST_IN_COMMENT = 120
 class Legend:
     """What the glyphs, lines and colours say, in lines of this width."""
 
-    def __init__(self, groups, colour_of, width):
+    def __init__(self, groups, colour_of, has_kinds, width):
         self.drawn, self.width = [], width
         self.x, self.y = LEGEND_LEFT, 18.0
         for group in groups[:MOST_IN_LEGEND]:
@@ -25,10 +24,12 @@ class Legend:
             self.add(0, f"and {len(groups) - MOST_IN_LEGEND} more groups", lambda x, y: "")
         self.add(38, "comes again", lambda x, y: pieces.level(x, x + 38, y, GREY, stroke_dasharray="5 3"))
         self.add(24, "never comes", lambda x, y: pieces.stub(x, y, 1, GREY))
+        if has_kinds:
+            self.add(24, "its kind: by the plain rules", lambda x, y: text_at(x, y + 4, "vote", fill=GREY))
         self.turn()
         self.add(10, "event", lambda x, y: pieces.event(x + 5, y, GREY))
         self.add(10, "crash: the machine stops", lambda x, y: pieces.crash(x + 5, y))
-        self.add(12, "fuse met: stops inside an event", lambda x, y: pieces.stop(x + 6, y))
+        self.add(12, "fuse met: stops inside", lambda x, y: pieces.stop(x + 6, y))
         self.add(12, "fuse isn't met", lambda x, y: pieces.fuse(x + 6, y, GREY))
         self.add(26, "down", lambda x, y: pieces.down(x, y, x + 26, y))
         self.add(10, "opened again", lambda x, y: pieces.opened(x + 5, y))
@@ -41,7 +42,7 @@ class Legend:
 
     def add(self, wide, text, piece):
         """A piece of this width, and what it says."""
-        room = wide + 6 + width_of(text)
+        room = wide + 6 + 0.9 * width_of(text)
         if self.x + room > self.width - LEGEND_LEFT:
             self.turn()
         self.drawn.append(piece(self.x, self.y))
@@ -59,7 +60,7 @@ class Picture:
         longest = max((len(plain(row.text, MOST_IN_COMMENT)) for row in run.rows if row.is_comment), default=0)
         # How wide the picture is doesn't depend on where its rows begin.
         self.width = max(LEAST_WIDTH, Places(run, 0.0).right, 52 + pieces.WIDE * longest)
-        self.legend = Legend(self.groups, self.colour_of, self.width)
+        self.legend = Legend(self.groups, self.colour_of, run.has_kinds, self.width)
         self.head = self.legend.end + 24
         self.places = Places(run, self.head + 8)
         self.lower, self.upper = [], []
@@ -103,7 +104,8 @@ class Picture:
         if row.node in self.run.nodes:
             self.upper.append(self.glyph(row, self.places.nodes[row.node], y))
         elif row.verb == "now":
-            self.lower.append(straight(46 + WIDE_MONO * len(said), y, self.width - 10, y, "#d0d7de", stroke_dasharray="1 4"))
+            behind = 46 + WIDE_MONO * len(said)
+            self.lower.append(straight(behind, y, self.width - 10, y, "#d0d7de", stroke_dasharray="1 4"))
         self.draw_marks(at, row, said)
 
     @staticmethod
@@ -117,7 +119,8 @@ class Picture:
         self.upper.append(tag("rect", fill="#f6f8fa", **ground))
         self.upper.append(self.number(at, y))
         most = int((self.width - 52) / pieces.WIDE)
-        self.upper.append(text_at(36, y + 4, plain(row.text, most), fill=GREY, font_style="italic"))
+        if row.text:
+            self.upper.append(text_at(36, y + 4, plain(row.text, most), fill=GREY, font_style="italic"))
 
     def glyph(self, row, x, y):
         """What happened at a node."""

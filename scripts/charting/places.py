@@ -1,4 +1,4 @@
-"""Where everything in a chart of a run stands: the heights of rows, the columns of nodes, and the lanes between them."""
+"""Where everything in a chart of a run stands: the heights of rows, the columns of nodes, and the lanes between."""
 
 from charting.pieces import WIDE_MONO, half_of, plain, width_of
 
@@ -199,7 +199,8 @@ class Places:
             if node < len(self.run.nodes):
                 count = shared_out(self.ways[node])
                 room = max(LANE * (count + 1), LEAST_GAP - self.rooms[node, 1] - self.rooms[node + 1, -1])
+                first = x + (room - LANE * (count - 1)) / 2
                 for one in self.ways[node]:
-                    self.lanes[one.frame.group, one.frame.number] = x + (room - LANE * (count - 1)) / 2 + LANE * one.lane
+                    self.lanes[one.frame.group, one.frame.number] = first + LANE * one.lane
                 x += room
         self.right = x + BESIDE

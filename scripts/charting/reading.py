@@ -117,11 +117,12 @@ def lines_of(data):
 
 class Run:
     """A script's rows with their answers, as far as they are drawn, and how many there are; its nodes, and all frames,
-    by group and number. Where a line was no event, `end` says so."""
+    by group and number, and whether their kinds are known. Where a line was no event, `end` says so."""
 
     def __init__(self, names):
         self.names = names
         self.count = 0
+        self.has_kinds = False
         self.rows: List[Row] = []
         self.nodes: Tuple[int, ...] = ()
         self.frames = {}
