@@ -1,5 +1,6 @@
 """A node's host: its process, its socket and its clock, in one thread."""
 import asyncio
+import contextlib
 import os
 import threading
 import time
@@ -50,7 +51,7 @@ class Host(threading.Thread):
         self.frames = {peer: asyncio.Queue() for peer in self.peers}
         self.take(self.process.read(), None)
         carriers = [asyncio.create_task(self.carry(peer)) for peer in self.peers]
-        async with await asyncio.start_server(self.serve, LOOPBACK, self.ports[self.node]):
+        with contextlib.closing(await asyncio.start_server(self.serve, LOOPBACK, self.ports[self.node])):
             self.event(f"add {GROUP}")
             if self.node == min(self.ports):
                 # One node sets the group up, in its first life: in others it is refused.
@@ -127,8 +128,7 @@ class Host(threading.Thread):
     def feed(self, data):
         frame = read_frame(data)
         for at in range(0, len(data), PIECE):
-            is_whole = at + PIECE >= len(data)
-            self.event(f"feed {frame.sender} {data[at:at + PIECE].hex()}", frame if is_whole else None)
+            self.event(f"feed {frame.sender} {data[at:at + PIECE].hex()}", frame if at + PIECE >= len(data) else None)
 
     async def answer(self, text):
         """What a client is told."""
