@@ -3,8 +3,7 @@ import dataclasses
 
 VOTE, VOTE_REPLY, APPEND, APPEND_REPLY, SNAPSHOT, SNAPSHOT_REPLY = range(1, 7)
 REQUESTS, REPLIES = (APPEND, SNAPSHOT), (APPEND_REPLY, SNAPSHOT_REPLY)
-COMMAND, MEMBERSHIP = 1, 2
-HIGHER_VOTE = 2
+COMMAND, MEMBERSHIP, HIGHER_VOTE = 1, 2, 2
 
 
 @dataclasses.dataclass
@@ -41,9 +40,6 @@ class _Bytes:
     def number(self, size=8):
         return int.from_bytes(self.take(size), "big")
 
-    def vote(self):
-        return self.number(), self.number(), self.number(1) == 1
-
     def log_id(self):
         return self.number(), self.number(), self.number()
 
@@ -66,7 +62,8 @@ class _Bytes:
 
 def read_frame(data):
     of = _Bytes(data[4:])
-    frame = Frame(of.number(1), of.number(), of.number(), of.number(), of.vote())
+    kind, ids = of.number(1), [of.number() for _ in range(3)]
+    frame = Frame(kind, *ids, vote=(of.number(), of.number(), of.number(1) == 1))
     if frame.kind == VOTE_REPLY:
         frame.is_taken = of.number(1) == 1
     elif frame.kind != VOTE:

@@ -1,7 +1,6 @@
 """A node's host: its process, its socket and its clock, in one thread."""
 import asyncio
 import contextlib
-import os
 import threading
 import time
 
@@ -31,7 +30,7 @@ class Host(threading.Thread):
         self.is_open = threading.Event()       # the opening was answered, or refused
         self.asked = {}                        # token: a client's future
         self.clock = Clock(GROUP, self.peers, moment())
-        self.process = NodeProcess(program, os.path.join(directory, str(node)), node, ["kv"])
+        self.process = NodeProcess(program, f"{directory}/{node}", node, ["kv"])
         self.start()
         self.is_open.wait()
 
@@ -50,8 +49,14 @@ class Host(threading.Thread):
     async def live(self):
         self.frames = {peer: asyncio.Queue() for peer in self.peers}
         self.take(self.process.read(), None)
-        carriers = [asyncio.create_task(self.carry(peer)) for peer in self.peers]
-        with contextlib.closing(await asyncio.start_server(self.serve, LOOPBACK, self.ports[self.node])):
+        carriers, served = [asyncio.create_task(self.carry(peer)) for peer in self.peers], set()
+
+        def serve(*streams):
+            task = asyncio.create_task(self.serve(*streams))
+            served.add(task)    # a loop keeps no task
+            task.add_done_callback(served.discard)
+
+        with contextlib.closing(await asyncio.start_server(serve, LOOPBACK, self.ports[self.node])):
             self.event(f"add {GROUP}")
             if self.node == min(self.ports):
                 # One node sets the group up, in its first life: in others it is refused.
@@ -120,7 +125,7 @@ class Host(threading.Thread):
                 elif body[:1] == ASK:
                     told = await self.answer(body[1:].decode(errors="replace"))
                     writer.write(message(TELL, told.encode()))
-        except (OSError, EOFError, asyncio.CancelledError):
+        except (OSError, EOFError):
             pass    # one of both sides is gone
         finally:
             writer.close()

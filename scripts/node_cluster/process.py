@@ -1,5 +1,4 @@
 """A process of raft_node_files: lines to it, and its answers."""
-import os
 import select
 import subprocess
 import time
@@ -34,7 +33,7 @@ class NodeProcess:
             left = end - time.monotonic()
             if left <= 0 or not select.select([self.life.stdout], [], [], left)[0]:
                 return None
-            more = os.read(self.life.stdout.fileno(), 1 << 20)
+            more = self.life.stdout.read(1 << 20)
             if not more:
                 return None
             self.held += more
