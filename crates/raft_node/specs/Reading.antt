@@ -50,3 +50,9 @@ abbrev pub outstanding_to : ℕ → Role → Option Outstanding
 outstanding_to peer Follower = None
 outstanding_to peer (Candidate granters) = None
 outstanding_to peer (Leader lead) = (peer_of lead peer).outstanding
+
+-- what a leader knows the peer to have
+abbrev pub matched_by : ℕ → Role → Option (LogId ℕ)
+matched_by peer Follower = None
+matched_by peer (Candidate granters) = None
+matched_by peer (Leader lead) = (peer_of lead peer).matched

@@ -8,6 +8,7 @@ ghost use Rattle.std.specs.Ordering.{eq_by_cmp, nat_cmp};
 ghost use Rattle.std.specs.BTreeMap.{get, keys};
 ghost use Rattle.raft_known_state.specs.KnownState.{logged_as_effective};
 ghost use Rattle.raft_group_step.specs.StoredGroup.{end_place, last_id, membership_in_force, snapshot_last};
+ghost use Rattle.raft_group_step.specs.Frames.{committed_id};
 ghost use Rattle.raft_group_step.specs.GroupState.{GroupState};
 ghost use Rattle.raft_group_step.specs.VoteRequest.{is_under_lease};
 ghost use Rattle.raft_group_step.specs.Refusal.{is_voter_in, known_leader};
@@ -16,7 +17,7 @@ ghost use Rattle.raft_engine.specs.Standing.{IsStateOf};
 ghost use Rattle.raft_laws.specs.GroupWorld.{Up};
 ghost use Rattle.raft_list_facts.specs.Leads.{leading_of};
 ghost use Rattle.raft_framed_groups.specs.Answers.{Stands};
-ghost use Rattle.raft_node.specs.Reading.{TellsOf, free_from, machine_in, moment_of, next_entry_id, outstanding_to, place_in};
+ghost use Rattle.raft_node.specs.Reading.{TellsOf, free_from, machine_in, matched_by, moment_of, next_entry_id, outstanding_to, place_in};
 ghost use Rattle.raft_node.specs.Standing.{applier_in, running_in, value_of};
 
 use crate::node::Node;
@@ -27,7 +28,7 @@ use raft_list_facts::{Leading, base_of};
 use raft_machines::StateMachine;
 use raft_member::{ByteGroup, Member, facts_of};
 use raft_messages::SnapshotBytes;
-use raft_state::{BasicNode, EffectiveMembership, LogId, LogStateReader, ServerState};
+use raft_state::{BasicNode, EffectiveMembership, LogId, LogStateReader, ServerState, Vote};
 use std::alloc::{AllocError, Global};
 use std::collections::BTreeMap;
 
@@ -70,6 +71,16 @@ fn is_waiting(engine: &Engine<ByteGroup>, peer: u64) -> bool
     match &engine.leader {
         Some(leader) => !leader.peer(&peer).inflight.is_none(),
         None => false,
+    }
+}
+
+// What the peer is known to have, where the engine's node leads.
+fn matching_of(engine: &Engine<ByteGroup>, peer: u64) -> Option<LogId<u64>>
+    ensures { (own : _) (s : GroupState) → IsStateOf own engine.now s → result ≡ matched_by peer s.role }
+{
+    match &engine.leader {
+        Some(leader) => leader.peer(&peer).matching,
+        None => None,
     }
 }
 
@@ -164,6 +175,22 @@ impl<M: StateMachine, S: GroupStorage<Snapshot = SnapshotBytes>> Node<M, S> {
     {
         let vote = self.going_engine(group)?.state.state.vote.get();
         vote.committed.then_some(vote.leader_id.node_id)
+    }
+
+    /// The vote that the node has stored for the group: its term, whose it is, and whether a quorum
+    /// granted it (openraft's `Vote`).
+    pub fn vote(&self, group: u64) -> Option<Vote<u64>>
+        ensures { TellsOf (value_of M.state S.is_well S.shows S.fails self.now) group result (λ s. Some s.stored.vote) }
+    {
+        Some(*self.going_engine(group)?.state.state.vote.get())
+    }
+
+    /// The last log id of the group that this node knows to be committed; none since an opening until
+    /// a leader tells it (openraft's `committed`).
+    pub fn committed(&self, group: u64) -> Option<LogId<u64>>
+        ensures { TellsOf (value_of M.state S.is_well S.shows S.fails self.now) group result committed_id }
+    {
+        self.going_engine(group)?.state.state.committed().copied()
     }
 
     /// The last place that the group's machine has run; none where it has run none.
@@ -278,5 +305,13 @@ impl<M: StateMachine, S: GroupStorage<Snapshot = SnapshotBytes>> Node<M, S> {
             Some(engine) => is_waiting(engine, peer),
             None => false,
         }
+    }
+
+    /// The last log id of the leader's log that the peer is known to have (openraft's `matching`);
+    /// none where the node doesn't lead the group, or knows of none.
+    pub fn matched(&self, group: u64, peer: u64) -> Option<LogId<u64>>
+        ensures { TellsOf (value_of M.state S.is_well S.shows S.fails self.now) group result (λ s. matched_by peer s.role) }
+    {
+        matching_of(self.going_engine(group)?, peer)
     }
 }
