@@ -1,4 +1,4 @@
-//! The lines of a node's script: those of a cluster's script without the node, and `feed`.
+//! The lines of a node's script: those of a cluster's script without the node, `feed` and `status`.
 
 use raft_cluster_events::{ClusterEvent, GroupCommand};
 use raft_cluster_script::{event_of, tokens_after};
@@ -19,6 +19,8 @@ pub enum NodeLine {
     Now { tick: u64 },
     /// `total G`, where the machine adds up.
     Total { group: u64 },
+    /// `status G`: what the node knows of the group.
+    Status { group: u64 },
     /// `add G`
     Add { group: u64 },
     /// A call of a group.
@@ -103,6 +105,17 @@ fn feed_in(alloc: Global, words: &str) -> Result<NodeLine, NodeLineError> {
     }
 }
 
+// `G`
+fn group_in(words: Option<&str>) -> Result<u64, NodeLineError> {
+    let Some((word, None)) = words.map(first_word) else {
+        return Err(NodeLineError::NoEvent(NoEvent::WrongCount));
+    };
+    match number_of(word) {
+        Some(group) => Ok(group),
+        None => Err(NodeLineError::NoEvent(NoEvent::NotANumber)),
+    }
+}
+
 // The event of a cluster as one of its node.
 fn of_node(event: ClusterEvent) -> Option<NodeLine> {
     match event {
@@ -182,6 +195,11 @@ pub fn read_node_line<M: ScriptMachine>(
     match (word, rest) {
         ("feed", Some(words)) => {
             let line = feed_in(alloc, words)?;
+            Ok(ReadNodeLine { line, tokens })
+        }
+        ("status", words) => {
+            let group = group_in(words)?;
+            let line = NodeLine::Status { group };
             Ok(ReadNodeLine { line, tokens })
         }
         _ => {

@@ -6,6 +6,7 @@ use crate::lines::{NodeLine, NodeLineError, ReadNodeLine, read_node_line};
 use raft_conditions::GroupCommand;
 use raft_group_storage::GroupStorage;
 use raft_node::{Fault, Fed, Node, NotOpened, Opened, Outcome};
+use raft_node_status::{group_status, status_text};
 use raft_script_answers::{AppliedTotal, Refusal, refused_text, total_text};
 use raft_script_machines::ScriptMachine;
 use raft_script_session::LineRunner;
@@ -151,6 +152,18 @@ impl<H: NodeHome> NodeScript<H> {
         Some(AppliedTotal { total, place })
     }
 
+    // What the node knows of the group.
+    fn status(&self, group: u64) -> Result<String, AllocError> {
+        let Some(node) = &self.node else {
+            return self.down();
+        };
+        match group_status(self.alloc, node, group)? {
+            Some(told) => status_text(self.alloc, &told),
+            None if node.has_failed() => refused_text(self.alloc, Refusal::Failed, &[]),
+            None => refused_text(self.alloc, Refusal::UnknownGroup, &[]),
+        }
+    }
+
     fn set_now(&mut self, tick: u64) -> Result<String, AllocError> {
         let text = String::from_str(self.alloc, "ok\n")?;
         self.tick = tick;
@@ -163,6 +176,7 @@ impl<H: NodeHome> NodeScript<H> {
             NodeLine::Skipped => Ok(String::new(self.alloc)),
             NodeLine::Now { tick } => self.set_now(tick),
             NodeLine::Total { group } => self.total(group),
+            NodeLine::Status { group } => self.status(group),
             NodeLine::Add { group } => self.add(group),
             NodeLine::Ask { group, call } => self.ask(group, &call),
             NodeLine::Feed { peer, piece } => self.feed(peer, piece.as_slice()),
