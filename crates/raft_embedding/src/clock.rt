@@ -2,23 +2,47 @@
 
 use crate::calls::{elect, heartbeat, lost, purge, snapshot};
 use crate::node::{Answered, CountersNode};
+use raft_state::LogId;
 use raft_timers::{GroupView, TimerConfig, TimerSettings, Timers, majority_heard};
 use std::alloc::{AllocError, Global};
 
-/// The clock of a group with three voters at one of them, and when it last heard of the other two.
+/// What was heard of a peer.
+#[derive(Clone, Copy)]
+struct Heard {
+    at: Option<u64>,
+    matched: Option<LogId<u64>>,
+}
+
+impl Heard {
+    // Nothing yet.
+    const NOTHING: Heard = Heard {
+        at: None,
+        matched: None,
+    };
+
+    // A frame came, and the peer is known to have this now. Whether that has moved.
+    fn note(&mut self, matched: Option<LogId<u64>>, now: u64) -> bool {
+        let has_moved = matched != self.matched;
+        self.at = Some(now);
+        self.matched = matched;
+        has_moved
+    }
+}
+
+/// The clock of a group with three voters at one of them, and what it last heard of the other two.
 #[derive(Drop)]
 pub struct Clock {
     alloc: Global,
     /// The group.
     pub group: u64,
     peers: [u64; 2],
-    heard: [Option<u64>; 2],
+    heard: [Heard; 2],
     timers: Timers,
 }
 
 // The moment since which a majority is known to be there, its own node now.
-fn quorum_heard(heard: &[Option<u64>; 2], now: u64) -> Option<u64> {
-    majority_heard(&[Some(now), heard[0], heard[1]])
+fn quorum_heard(heard: &[Heard; 2], now: u64) -> Option<u64> {
+    majority_heard(&[Some(now), heard[0].at, heard[1].at])
 }
 
 // What the node tells of the group; none where it isn't there.
@@ -58,19 +82,24 @@ impl Clock {
             alloc,
             group,
             peers,
-            heard: [None, None],
+            heard: [Heard::NOTHING, Heard::NOTHING],
             timers,
         })
     }
 
-    /// A frame of the peer was taken in the group.
-    pub fn hear(&mut self, peer: u64, now: u64) {
-        self.timers.answered(peer);
-        if peer == self.peers[0] {
-            self.heard[0] = Some(now);
-        }
-        if peer == self.peers[1] {
-            self.heard[1] = Some(now);
+    /// A frame of the peer was taken in the group. It ends a wait only where it moved what the peer is
+    /// known to have: answers to heartbeats come while a request is lost, too, and would hide that.
+    pub fn hear(&mut self, node: &CountersNode, peer: u64, now: u64) {
+        let matched = node.matched(self.group, peer);
+        let has_moved = if peer == self.peers[0] {
+            self.heard[0].note(matched, now)
+        } else if peer == self.peers[1] {
+            self.heard[1].note(matched, now)
+        } else {
+            false
+        };
+        if has_moved {
+            self.timers.answered(peer);
         }
     }
 

@@ -156,12 +156,12 @@ impl Home {
 
     /// The clock hears of frames of the peer in its group.
     pub fn hear(&mut self, peer: u64, outcomes: &[Outcome], now: u64) {
-        let Some(clock) = &mut self.clock else {
+        let (Some(clock), Some(node)) = (&mut self.clock, &self.node) else {
             return;
         };
         for outcome in outcomes {
             if outcome.group == clock.group {
-                clock.hear(peer, now);
+                clock.hear(node, peer, now);
             }
         }
     }

@@ -81,7 +81,8 @@ impl Timers {
         Ok(())
     }
 
-    /// A frame of the peer was taken in this group: its requests have the first timeout again.
+    /// The peer answered the request that the node waited for: the next one has the first timeout
+    /// again. Not for each frame of the peer: answers to heartbeats come while a request is lost, too.
     pub fn answered(&mut self, peer: u64)
         ensures { self.new ≡ answered peer self.old }
     {
