@@ -66,6 +66,10 @@ def _pairs(text):
                 return [], "a line new: stands before any line file: or old:"
             pairs.append((path, old, line[len("new:") :].removeprefix(" ")))
             old = None
+        elif line and not line.startswith(("why: ", "only: ")):
+            return [], f"nothing reads its line '{line[:60]}': an old text and a new one are one line each"
+    if any(old == new for _, old, new in pairs):
+        return [], "it changes nothing"
     return pairs, None if pairs else "it has no pair of lines old: and new:"
 
 

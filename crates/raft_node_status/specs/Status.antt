@@ -1,7 +1,5 @@
 -- What a node knows of a group, at once.
-use Rattle.std.specs.Prelude.{◌≡◌, ⊥, ℕ, Bool, true, false, List, [], map, Option, Some, None, is_some}
-use Rattle.raft_values.specs.declared.log_id.LogId.{LogId}
-use Rattle.raft_values.specs.declared.vote.Vote.{Vote}
+use Rattle.std.specs.Prelude.{◌≡◌, ℕ, Bool, true, false, List, [], map, Option, Some, None, is_some}
 use Rattle.raft_group_step.specs.StoredGroup.{last_id, membership_in_force, snapshot_last}
 use Rattle.raft_group_step.specs.GroupState.{GroupState, is_leader}
 use Rattle.raft_group_step.specs.Lead.{other_ids}
