@@ -151,8 +151,9 @@ class Host(threading.Thread):
         return await client
 
     def status(self):
-        """A heartbeat tells whether it leads, and else whom it takes for the leader. Frames tell the rest."""
-        answer = self.event(f"heartbeat {GROUP}")
-        leads = "leads" if answer.refusal is None else f"follows {answer.leader or 'nobody'}"
-        lack = ", hears of no quorum" if self.clock.lacks_quorum(moment()) else ""
-        return f"{leads}{lack}; knows the list as committed up to {self.clock.committed}"
+        """What the node says of the group."""
+        self.process.write(f"status {GROUP}")
+        text = self.process.read()
+        if text is None:
+            raise ConnectionError
+        return text + (", hears of no quorum" if self.clock.lacks_quorum(moment()) else "")
