@@ -1,6 +1,6 @@
 """The clock of a group at a node: which lines are due, by the rules of the crate raft_timers.
 
-The program has no line that tells a role or whom a request waits for, so the clock reads that off frames: who sends
+The clock reads roles and waiting requests off frames, which spares a line `status` at each tick: who sends
 entries leads, until a heartbeat is refused; a request waits until the reply with its number comes; a reply that grants
 or takes something is a sign of life. Moments are in milliseconds.
 """
