@@ -165,9 +165,11 @@ fn line_in<M: ScriptMachine>(
         ScriptLine::Now { tick } => NodeLine::Now { tick },
         ScriptLine::Total { node: _, group } => NodeLine::Total { group },
         ScriptLine::Happens(event) => return event_line::<M>(alloc, tick, tokens, event),
-        ScriptLine::Nodes { .. } | ScriptLine::Kv { .. } | ScriptLine::Fuse { .. } => {
-            return Err(FOREIGN);
-        }
+        ScriptLine::Nodes { .. } | ScriptLine::Kv { .. } => return Err(FOREIGN),
+        ScriptLine::Fuse {
+            calls: _,
+            event: _event,
+        } => return Err(FOREIGN),
     };
     Ok(ReadNodeLine { line, tokens })
 }
