@@ -107,7 +107,10 @@ fn feed_in(alloc: Global, words: &str) -> Result<NodeLine, NodeLineError> {
 
 // `G`
 fn group_in(words: Option<&str>) -> Result<u64, NodeLineError> {
-    let Some((word, None)) = words.map(first_word) else {
+    let Some(words) = words else {
+        return Err(NodeLineError::NoEvent(NoEvent::WrongCount));
+    };
+    let (word, None) = first_word(words) else {
         return Err(NodeLineError::NoEvent(NoEvent::WrongCount));
     };
     match number_of(word) {
