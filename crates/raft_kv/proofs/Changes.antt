@@ -12,7 +12,7 @@ use Rattle.std.proofs.lemmas.List.Elements.{All-head, All-tail}
 use Rattle.std.proofs.lemmas.Map.Views.{All-keys-insert_entry, All-map-remove_entry, All-values-insert_entry}
 use Rattle.raft_kv.specs.Fields.{IsKey, IsValue}
 use Rattle.raft_kv.specs.Machine.{is_full_for}
-use Rattle.raft_kv.specs.Map.{Tree, map_of, tree_order, IsTreeWithin, IsWithin, KeyFits, ValueFits}
+use Rattle.raft_kv.specs.Map.{key_count_limit, Tree, map_of, tree_order, IsTreeWithin, IsWithin, KeyFits, ValueFits}
 use Rattle.raft_kv.proofs.Maps.{bytes_of, get_of, len_of, same_key, test_at}
 
 abbrev Owned : Type 0
@@ -22,7 +22,7 @@ still_there : (o : Option Owned) → is_some (option_map bytes_of o) ≡ is_some
 still_there None = refl
 still_there (Some v) = refl
 
-room : (there : Bool) (len more : ℕ) → (nat_le 4096 len && not there) ≡ false → len ≤ 4096 → more ≡ len + cond there 0 1 → more ≤ 4096
+room : (there : Bool) (len more : ℕ) → (nat_le key_count_limit len && not there) ≡ false → len ≤ key_count_limit → more ≡ len + cond there 0 1 → more ≤ key_count_limit
 room true len more full few is = omega (arith, few, is)
 room false len more full few is = grind (arith, nat_tests, full, few, is)
 
@@ -31,8 +31,8 @@ pub inserted : (m n : Tree) (key value : Owned) (old : Option Owned) → IsTreeW
     → n.entries ≡ tree.insert_entry tree_order m.entries key value → tree.btree_map_len n ≡ tree.btree_map_len m + cond (is_some old) 0 1 → tree.IsOrdered tree_order n → IsTreeWithin n
 inserted m n key value old h full key_fits value_fits is entries len ordered =
     let there : finite.contains_key (map_of m) key.items ≡ is_some old = ap is_some (get_of m key.items) ∙ still_there (tree.get tree_order m key) ∙ ap is_some (sym is) in
-    let no_room : (nat_le 4096 (tree.btree_map_len m) && not (is_some old)) ≡ false =
-    sym (ap (λ (k : ℕ). nat_le 4096 k && not (finite.contains_key (map_of m) key.items)) (len_of m h.ordered) ∙ ap (λ (b : Bool). nat_le 4096 (tree.btree_map_len m) && not b) there) ∙ full in
+    let no_room : (nat_le key_count_limit (tree.btree_map_len m) && not (is_some old)) ≡ false =
+    sym (ap (λ (k : ℕ). nat_le key_count_limit k && not (finite.contains_key (map_of m) key.items)) (len_of m h.ordered) ∙ ap (λ (b : Bool). nat_le key_count_limit (tree.btree_map_len m) && not b) there) ∙ full in
     record {
       ordered = ordered;
       count = room (is_some old) (tree.btree_map_len m) (tree.btree_map_len n) no_room h.count len;
@@ -63,7 +63,7 @@ fits_there q (e ∷ es) v k w h =
 
 pub map_within : (t : Tree) → IsTreeWithin t → IsWithin (map_of t)
 map_within t h = record {
-  count = subst (λ (n : ℕ). n ≤ 4096) (sym (len_of t h.ordered)) h.count;
+  count = subst (λ (n : ℕ). n ≤ key_count_limit) (sym (len_of t h.ordered)) h.count;
   each = λ key value f. by key value (lookup (test_at key) t.entries) refl (sym (get_of t key) ∙ f);
 }
   where

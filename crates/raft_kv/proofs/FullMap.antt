@@ -7,7 +7,7 @@ use Rattle.std.specs.Cmp.Lexicographic.{nat_list_cmp_total}
 use Rattle.std.proofs.lemmas.Bool.Decides.{nat_tests}
 use Rattle.raft_bytes.proofs.Numbers.{wide32}
 use Rattle.raft_kv.specs.declared.command.KvCommand.TheVariants.{Put}
-use Rattle.raft_kv.specs.Map.{in_order, spelled_map, IsWithin}
+use Rattle.raft_kv.specs.Map.{key_count_limit, in_order, spelled_map, IsWithin}
 use Rattle.raft_kv.specs.Machine.{answer_of, answer_to, is_full_for, kv}
 use Rattle.raft_kv.specs.Rows.{key_of, numbers_below, put_apple}
 use Rattle.raft_kv.proofs.KeyLaws.{differs}
@@ -37,7 +37,7 @@ unfolding numbers_below
 no_word zero = finite.get-empty in_order (codes "apple")
 no_word (suc n) = skipped n (codes "apple") (λ e. let sizes : 5 ≡ 4 = ap length e in absurd (omega (arith, sizes))) ∙ no_word n
 
-pub counted : (n : ℕ) → n ≤ 4096 → finite.len (numbers_below n) ≡ n
+pub counted : (n : ℕ) → n ≤ key_count_limit → finite.len (numbers_below n) ≡ n
 unfolding numbers_below
 counted zero le = finite.len-empty in_order (List ℕ)
 counted (suc n) le =
@@ -46,19 +46,19 @@ counted (suc n) le =
     finite.len-insert nat_list_cmp_total (numbers_below n) (key_of n) one
     ∙ ap (λ (o : Option (List ℕ)). cond (is_some o) (finite.len (numbers_below n)) (finite.len (numbers_below n) + 1)) (absent n n (omega arith) (omega (arith, le))) ∙ more
 
-has_place : (n : ℕ) → n + 1 ≤ 4096 → is_full_for (numbers_below n) (key_of n) ≡ false
+has_place : (n : ℕ) → n + 1 ≤ key_count_limit → is_full_for (numbers_below n) (key_of n) ≡ false
 has_place n le =
-    let few : nat_le 4096 n ≡ false = grind (arith, nat_tests, le) in
-    ap (λ (k : ℕ). nat_le 4096 k && not (finite.contains_key (numbers_below n) (key_of n))) (counted n (omega (arith, le)))
+    let few : nat_le key_count_limit n ≡ false = grind (arith, nat_tests, le) in
+    ap (λ (k : ℕ). nat_le key_count_limit k && not (finite.contains_key (numbers_below n) (key_of n))) (counted n (omega (arith, le)))
     ∙ ap (λ (b : Bool). b && not (finite.contains_key (numbers_below n) (key_of n))) few
 
-pub numbers_within : (n : ℕ) → n ≤ 4096 → IsWithin (numbers_below n)
+pub numbers_within : (n : ℕ) → n ≤ key_count_limit → IsWithin (numbers_below n)
 unfolding numbers_below
 numbers_within zero le = empty_within
 numbers_within (suc n) le =
     insert_within (numbers_below n) (key_of n) one (has_place n (omega (arith, le))) (record { some = omega arith; few = omega arith }) (record { some = omega arith; few = omega arith }) (numbers_within n (omega (arith, le)))
 
-present : (n m : ℕ) → m + 1 ≤ n → n ≤ 4096 → finite.get (numbers_below n) (key_of m) ≡ Some one
+present : (n m : ℕ) → m + 1 ≤ n → n ≤ key_count_limit → finite.get (numbers_below n) (key_of m) ≡ Some one
 unfolding numbers_below
 present zero m lt le = absurd (omega (arith, lt))
 present (suc n) m lt le = by (nat_le n m) refl (λ low. present n m low (omega (arith, le))) where
@@ -74,26 +74,26 @@ present (suc n) m lt le = by (nat_le n m) refl (λ low. present n m low (omega (
 
 -- ---- the full map
 
-full_apple : is_full_for (numbers_below 4096) (codes "apple") ≡ true
+full_apple : is_full_for (numbers_below key_count_limit) (codes "apple") ≡ true
 full_apple =
-    ap (λ (k : ℕ). nat_le 4096 k && not (finite.contains_key (numbers_below 4096) (codes "apple"))) (counted 4096 (omega arith))
-    ∙ ap (λ (o : Option (List ℕ)). nat_le 4096 4096 && not (is_some o)) (no_word 4096)
+    ap (λ (k : ℕ). nat_le key_count_limit k && not (finite.contains_key (numbers_below key_count_limit) (codes "apple"))) (counted key_count_limit (omega arith))
+    ∙ ap (λ (o : Option (List ℕ)). nat_le key_count_limit key_count_limit && not (is_some o)) (no_word key_count_limit)
 
-full_known : is_full_for (numbers_below 4096) (key_of 7) ≡ false
+full_known : is_full_for (numbers_below key_count_limit) (key_of 7) ≡ false
 full_known =
-    ap (λ (k : ℕ). nat_le 4096 k && not (finite.contains_key (numbers_below 4096) (key_of 7))) (counted 4096 (omega arith))
-    ∙ ap (λ (o : Option (List ℕ)). nat_le 4096 4096 && not (is_some o)) (present 4096 7 (omega arith) (omega arith))
+    ap (λ (k : ℕ). nat_le key_count_limit k && not (finite.contains_key (numbers_below key_count_limit) (key_of 7))) (counted key_count_limit (omega arith))
+    ∙ ap (λ (o : Option (List ℕ)). nat_le key_count_limit key_count_limit && not (is_some o)) (present key_count_limit 7 (omega arith) (omega arith))
 
-pub full_answer : kv.answer (spelled_map (numbers_below 4096)) 0 put_apple ≡ 2 ∷ []
+pub full_answer : kv.answer (spelled_map (numbers_below key_count_limit)) 0 put_apple ≡ 2 ∷ []
 full_answer =
-    answer_given (numbers_below 4096) (Put (codes "apple") (codes "red")) (numbers_within 4096 (omega arith)) put_fits
-    ∙ ap (λ (b : Bool). cond b (2 ∷ []) (answer_of (finite.get (numbers_below 4096) (codes "apple")))) full_apple
+    answer_given (numbers_below key_count_limit) (Put (codes "apple") (codes "red")) (numbers_within key_count_limit (omega arith)) put_fits
+    ∙ ap (λ (b : Bool). cond b (2 ∷ []) (answer_of (finite.get (numbers_below key_count_limit) (codes "apple")))) full_apple
 
-pub full_step : kv.step (spelled_map (numbers_below 4096)) 0 put_apple ≡ spelled_map (numbers_below 4096)
+pub full_step : kv.step (spelled_map (numbers_below key_count_limit)) 0 put_apple ≡ spelled_map (numbers_below key_count_limit)
 full_step =
-    step_of (numbers_below 4096) (Put (codes "apple") (codes "red")) (numbers_within 4096 (omega arith)) put_fits
-    ∙ ap (λ (b : Bool). spelled_map (cond b (numbers_below 4096) (finite.insert (numbers_below 4096) (codes "apple") (codes "red")))) full_apple
+    step_of (numbers_below key_count_limit) (Put (codes "apple") (codes "red")) (numbers_within key_count_limit (omega arith)) put_fits
+    ∙ ap (λ (b : Bool). spelled_map (cond b (numbers_below key_count_limit) (finite.insert (numbers_below key_count_limit) (codes "apple") (codes "red")))) full_apple
 
-pub known_answer : answer_to (numbers_below 4096) (Put (key_of 7) (codes "red")) ≡ 1 ∷ 1 ∷ []
+pub known_answer : answer_to (numbers_below key_count_limit) (Put (key_of 7) (codes "red")) ≡ 1 ∷ 1 ∷ []
 known_answer =
-    ap (λ (b : Bool). cond b (2 ∷ []) (answer_of (finite.get (numbers_below 4096) (key_of 7)))) full_known ∙ ap answer_of (present 4096 7 (omega arith) (omega arith))
+    ap (λ (b : Bool). cond b (2 ∷ []) (answer_of (finite.get (numbers_below key_count_limit) (key_of 7)))) full_known ∙ ap answer_of (present key_count_limit 7 (omega arith) (omega arith))

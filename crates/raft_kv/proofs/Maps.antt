@@ -19,7 +19,7 @@ use Rattle.std.proofs.lemmas.List.Elements.{All-head, All-tail}
 use Rattle.raft_wire.specs.Reader.{all_of}
 use Rattle.raft_wire.specs.Memberships.{Chained, spelled_list}
 use Rattle.raft_wire.proofs.Whole.{whole_again}
-use Rattle.raft_kv.specs.Map.{Pair, Tree, are_rising, in_order, is_map, is_map_read, map_in, map_of, map_read, nothing_left, pairs_at, plain, spelled_map, spelled_pair, tree_order, IsTreeWithin, KeyFits, ValueFits}
+use Rattle.raft_kv.specs.Map.{key_count_limit, Pair, Tree, are_rising, in_order, is_map, is_map_read, map_in, map_of, map_read, nothing_left, pairs_at, plain, spelled_map, spelled_pair, tree_order, IsTreeWithin, KeyFits, ValueFits}
 use Rattle.raft_kv.specs.Machine.{state_of}
 use Rattle.raft_kv.proofs.Reading.{FitsPair, FitsPairs, pairs_reads}
 
@@ -127,7 +127,7 @@ pairs_fit (e ∷ es) k v =
     ((All-head KeyFits e.0 (keys_of es) k, All-head ValueFits e.1 (values_of es) v), pairs_fit es (All-tail KeyFits e.0 (keys_of es) k) (All-tail ValueFits e.1 (values_of es) v))
 
 tree_fits : (t : Tree) → IsTreeWithin t → FitsPairs (map plain t.entries)
-tree_fits t h = (subst (λ (n : ℕ). n ≤ 4096) (sym (length-map t.entries plain)) h.count, pairs_fit t.entries h.keys h.values)
+tree_fits t h = (subst (λ (n : ℕ). n ≤ key_count_limit) (sym (length-map t.entries plain)) h.count, pairs_fit t.entries h.keys h.values)
 
 -- the spelling of a machine's tree is read as its pairs
 tree_again : (t : Tree) → IsTreeWithin t → all_of pairs_at (spelled_map (map_of t)) ≡ Ok (map plain t.entries)

@@ -11,9 +11,9 @@ use Rattle.raft_wire.proofs.Fitting.{Reads, both_reads, fits_as, tested_reads, t
 use Rattle.raft_wire.proofs.Lists.{counted_reads}
 use Rattle.raft_kv.specs.declared.command.KvCommand.{KvCommand}
 use Rattle.raft_kv.specs.declared.command.KvCommand.TheVariants.{Put, Get, Drop}
-use Rattle.raft_kv.specs.Fields.{IsFilled, IsKey, IsValue, has_bytes, filled_at, key_at, value_at}
+use Rattle.raft_kv.specs.Fields.{key_limit, value_limit, IsFilled, IsKey, IsValue, has_bytes, filled_at, key_at, value_at}
 use Rattle.raft_kv.specs.Command.{FitsCommand, command_at, spelled_command, put_of, get_of, drop_of}
-use Rattle.raft_kv.specs.Map.{Pair, nothing_left, pair_at, pairs_at, spelled_pair}
+use Rattle.raft_kv.specs.Map.{key_count_limit, Pair, nothing_left, pair_at, pairs_at, spelled_pair}
 
 -- ---- keys and values
 
@@ -32,10 +32,10 @@ filled_reads limit small =
     (λ text h. record { some = some_bytes text h.1; few = h.0 }) (λ text h. (h.few, tests_some text h.some))
 
 key_reads : Reads key_at spelled_text IsKey
-key_reads = filled_reads 255 (omega arith)
+key_reads = filled_reads key_limit (omega arith)
 
 value_reads : Reads value_at spelled_text IsValue
-value_reads = filled_reads 199 (omega arith)
+value_reads = filled_reads value_limit (omega arith)
 
 pub pair_reads : Reads pair_at spelled_pair (λ pair. IsKey pair.0 × IsValue pair.1)
 unfolding pair_at
@@ -82,8 +82,8 @@ abbrev pub FitsPair : Pair → Type 0
 FitsPair pair = IsKey pair.0 × IsValue pair.1
 
 abbrev pub FitsPairs : List Pair → Type 0
-FitsPairs pairs = (length pairs ≤ 4096) × Chained (λ _ pair. FitsPair pair) nothing_left None pairs
+FitsPairs pairs = (length pairs ≤ key_count_limit) × Chained (λ _ pair. FitsPair pair) nothing_left None pairs
 
 pub pairs_reads : Reads pairs_at (spelled_list spelled_pair) FitsPairs
 unfolding pairs_at
-pairs_reads = counted_reads (λ _. pair_at) nothing_left spelled_pair (λ _ pair. FitsPair pair) (λ _. pair_reads) 4096 (omega arith)
+pairs_reads = counted_reads (λ _. pair_at) nothing_left spelled_pair (λ _ pair. FitsPair pair) (λ _. pair_reads) key_count_limit (omega arith)

@@ -13,7 +13,7 @@ use Rattle.raft_bytes.specs.Bytes.{AreBytes}
 use Rattle.raft_wire.specs.Reader.{all_of}
 use Rattle.raft_wire.specs.Memberships.{Chained, spelled_list}
 use Rattle.raft_wire.proofs.Whole.{whole_takes}
-use Rattle.raft_kv.specs.Map.{Pair, Tree, are_rising, in_order, is_map, is_map_read, map_of, nothing_left, pairs_at, plain, restored, spelled_map, spelled_pair, IsTreeWithin, KeyFits, ValueFits}
+use Rattle.raft_kv.specs.Map.{key_count_limit, Pair, Tree, are_rising, in_order, is_map, is_map_read, map_of, nothing_left, pairs_at, plain, restored, spelled_map, spelled_pair, IsTreeWithin, KeyFits, ValueFits}
 use Rattle.raft_kv.specs.Pairs.{IsTreeOf, is_before}
 use Rattle.raft_kv.proofs.Reading.{FitsPair, FitsPairs, pairs_reads}
 use Rattle.raft_kv.proofs.Maps.{entries_of, ordered_rises}
@@ -68,7 +68,7 @@ module _ (bytes : List ℕ) (pairs : List Pair) (t : Tree) (fits : AreBytes byte
       let fit : FitsPairs (map plain t.entries) = subst FitsPairs (sym is.1) found.0 in
       record {
         ordered = is.0;
-        count = subst (λ (n : ℕ). n ≤ 4096) (length-map t.entries plain) fit.0;
+        count = subst (λ (n : ℕ). n ≤ key_count_limit) (length-map t.entries plain) fit.0;
         keys = keys_fit t.entries fit.1;
         values = values_fit t.entries fit.1;
       }

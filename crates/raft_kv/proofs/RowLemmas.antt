@@ -8,7 +8,7 @@ use Rattle.std.proofs.lemmas.List.{nil_from_length}
 use Rattle.raft_wire.specs.Memberships.{spelled_list}
 use Rattle.raft_kv.specs.declared.command.KvCommand.TheVariants.{Put, Get, Drop}
 use Rattle.raft_kv.specs.Fields.{IsKey, IsValue}
-use Rattle.raft_kv.specs.Map.{Map, in_order, spelled_map, spelled_pair, IsWithin}
+use Rattle.raft_kv.specs.Map.{key_count_limit, Map, in_order, spelled_map, spelled_pair, IsWithin}
 use Rattle.raft_kv.specs.Machine.{after_command, answer_of, is_full_for, kv}
 use Rattle.raft_kv.specs.Rows.{after_drop, after_get, after_put, drop_apple, get_apple, no_pairs, pair_a, pair_b, put_a, put_apple, put_b}
 use Rattle.raft_kv.proofs.WithinMaps.{answer_given, command_within, empty_within, step_of}
@@ -21,8 +21,8 @@ pub no_pairs_spelled : spelled_map finite.empty ≡ no_pairs
 no_pairs_spelled = ap (spelled_list spelled_pair) no_entries
 
 -- a map of so few keys has a place
-place : (m : Map) (key : List ℕ) (len : ℕ) → finite.len m ≡ len → nat_le 4096 len ≡ false → is_full_for m key ≡ false
-place m key len is few = ap (λ (n : ℕ). nat_le 4096 n && not (finite.contains_key m key)) is ∙ ap (λ (b : Bool). b && not (finite.contains_key m key)) few
+place : (m : Map) (key : List ℕ) (len : ℕ) → finite.len m ≡ len → nat_le key_count_limit len ≡ false → is_full_for m key ≡ false
+place m key len is few = ap (λ (n : ℕ). nat_le key_count_limit n && not (finite.contains_key m key)) is ∙ ap (λ (b : Bool). b && not (finite.contains_key m key)) few
 
 empty_place : (key : List ℕ) → is_full_for finite.empty key ≡ false
 empty_place key = place finite.empty key 0 (finite.len-empty in_order (List ℕ)) refl

@@ -18,7 +18,7 @@ use Rattle.raft_kv.specs.declared.command.KvCommand.{KvCommand}
 use Rattle.raft_kv.specs.declared.command.KvCommand.TheVariants.{Put, Get, Drop}
 use Rattle.raft_kv.specs.Fields.{IsKey, IsValue}
 use Rattle.raft_kv.specs.Command.{FitsCommand, command_at, spelled_command}
-use Rattle.raft_kv.specs.Map.{Map, Pair, are_rising, in_order, is_map_read, map_in, map_read, nothing_left, pairs_at, restored, spelled_map, spelled_pair, IsWithin}
+use Rattle.raft_kv.specs.Map.{key_count_limit, Map, Pair, are_rising, in_order, is_map_read, map_in, map_read, nothing_left, pairs_at, restored, spelled_map, spelled_pair, IsWithin}
 use Rattle.raft_kv.specs.Machine.{after_command, answer_in, answer_to, is_full_for, state_after}
 use Rattle.raft_kv.proofs.Reading.{FitsPair, FitsPairs, command_reads, pairs_reads}
 use Rattle.raft_kv.proofs.Maps.{from_rising, passes, same_key}
@@ -66,7 +66,7 @@ chained (pair ∷ pairs) s h =
 
 pub entries_fit : (m : Map) → IsWithin m → FitsPairs (finite.entries m)
 entries_fit m h = (
-  subst (λ (n : ℕ). n ≤ 4096) (finite.len-entries m) h.count,
+  subst (λ (n : ℕ). n ≤ key_count_limit) (finite.len-entries m) h.count,
   chained (finite.entries m) (finite.entries_sorted m) (λ key value f. h.each key value (finite.get-entries m key ∙ f)),
 )
 
@@ -99,7 +99,7 @@ one_command c d h k e =
 
 pub empty_within : IsWithin finite.empty
 empty_within = record {
-  count = subst (λ (n : ℕ). n ≤ 4096) (sym (finite.len-empty in_order (List ℕ))) (omega arith);
+  count = subst (λ (n : ℕ). n ≤ key_count_limit) (sym (finite.len-empty in_order (List ℕ))) (omega arith);
   each = λ key value f. absurd (let e : None ≡ Some value = sym (finite.get-empty in_order key) ∙ f in cc);
 }
 
@@ -112,7 +112,7 @@ insert_within m key value full fits_key fits_value h = record {
   each = λ q w f. by q w (eq_by_cmp in_order q key) refl (sym (finite.get-insert nat_list_cmp_total m key value q) ∙ f);
 }
   where
-    room : (there : Bool) → (nat_le 4096 (finite.len m) && not there) ≡ false → finite.len (finite.insert m key value) ≡ cond there (finite.len m) (finite.len m + 1) → finite.len (finite.insert m key value) ≤ 4096
+    room : (there : Bool) → (nat_le key_count_limit (finite.len m) && not there) ≡ false → finite.len (finite.insert m key value) ≡ cond there (finite.len m) (finite.len m + 1) → finite.len (finite.insert m key value) ≤ key_count_limit
     room true full is = omega (arith, h.count, is)
     room false full is = grind (arith, nat_tests, h.count, full, is)
 
@@ -126,7 +126,7 @@ remove_within m key h = record {
   each = λ q w f. by q w (eq_by_cmp in_order q key) (sym (finite.get-remove nat_list_cmp_total m key q) ∙ f);
 }
   where
-    fewer : (there : Bool) → finite.len (finite.remove m key) ≡ cond there (finite.len m - 1) (finite.len m) → finite.len (finite.remove m key) ≤ 4096
+    fewer : (there : Bool) → finite.len (finite.remove m key) ≡ cond there (finite.len m - 1) (finite.len m) → finite.len (finite.remove m key) ≤ key_count_limit
     fewer true is = omega (arith, h.count, is)
     fewer false is = omega (arith, h.count, is)
 
