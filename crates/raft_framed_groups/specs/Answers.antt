@@ -55,6 +55,17 @@ pub record Node : Type 1 where
   pub shows : ℕ → List StoredGroup → Type 0
   pub fails : Fails
 
+-- a node with such members over this storage, which is well, shows, and may have failed so
+abbrev pub node_over : {S : Type 0} → ℕ → (S → Type 0) → (S → ℕ → List StoredGroup → Type 0) → (S → Fails) → Bool → (ℕ → Option Member) → S → Node
+node_over own is_well shows fails has_failed members storage = record {
+  own = own;
+  has_failed = has_failed;
+  members = members;
+  is_well = is_well storage;
+  shows = shows storage;
+  fails = fails storage;
+}
+
 -- what the node is in a group
 abbrev pub Stands : Node → ℕ → NodeState → Type 0
 Stands n = StandsAs n.own n.members n.is_well n.shows

@@ -1,5 +1,5 @@
 -- Frames of a group's messages.
-use Rattle.std.specs.Prelude.{◌≡◌, ℕ, List, Option, Some, Contains}
+use Rattle.std.specs.Prelude.{◌≡◌, ℕ, List, Some, Contains}
 use Rattle.raft_list_facts.specs.Accepting.{accepted_by}
 use Rattle.raft_messages.specs.declared.message.Message.{Message}
 use Rattle.raft_messages.specs.declared.memberships.SnapshotBytes.{SnapshotBytes}

@@ -3,7 +3,7 @@ ghost use Rattle.std.specs.Prelude.{◌≡◌, None};
 ghost use Rattle.std.specs.Option.{option_copied};
 ghost use Rattle.std.specs.Ordering.{nat_cmp};
 ghost use Rattle.std.specs.BTreeMap.{get};
-ghost use Rattle.raft_framed_groups.specs.Answers.{IsAnswered, IsAsked, IsFrameTaken, IsFrom, IsOutcomeOf, IsTurnedAway, fault_met_by_answer, is_right_party};
+ghost use Rattle.raft_framed_groups.specs.Answers.{IsAnswered, IsAsked, IsFrameTaken, IsFrom, IsOutcomeOf, IsTurnedAway, fault_met_by_answer, is_right_party, node_over};
 
 use crate::frames::{GroupFrame, frames_of};
 use raft_conditions::{GroupCommand, Refusal};
@@ -81,8 +81,8 @@ pub fn ask_group<S: GroupStorage<Snapshot = SnapshotBytes>>(
     now: u64,
 ) -> Result<Outcome, AnswerError<S::Fault>>
     ensures asked { IsAsked S.stands
-        (record { own = groups.old.id; has_failed = groups.old.has_failed; members = get nat_cmp groups.old.members; is_well = S.is_well groups.old.storage; shows = S.shows groups.old.storage; fails = S.fails groups.old.storage })
-        (record { own = groups.old.id; has_failed = groups.new.has_failed; members = get nat_cmp groups.new.members; is_well = S.is_well groups.new.storage; shows = S.shows groups.new.storage; fails = S.fails groups.new.storage })
+        (node_over groups.old.id S.is_well S.shows S.fails groups.old.has_failed (get nat_cmp groups.old.members) groups.old.storage)
+        (node_over groups.old.id S.is_well S.shows S.fails groups.new.has_failed (get nat_cmp groups.new.members) groups.new.storage)
         group call.now (option_copied built.entry) now result }
     ensures same { IsTurnedAway result → groups.new ≡ groups.old }
     ensures id { groups.new.id ≡ groups.old.id }
@@ -102,8 +102,8 @@ fn take_frame<S: GroupStorage<Snapshot = SnapshotBytes>>(
     now: u64,
 ) -> Result<Outcome, AnswerError<S::Fault>>
     ensures takes { IsFrameTaken S.stands
-        (record { own = groups.old.id; has_failed = groups.old.has_failed; members = get nat_cmp groups.old.members; is_well = S.is_well groups.old.storage; shows = S.shows groups.old.storage; fails = S.fails groups.old.storage })
-        (record { own = groups.old.id; has_failed = groups.new.has_failed; members = get nat_cmp groups.new.members; is_well = S.is_well groups.new.storage; shows = S.shows groups.new.storage; fails = S.fails groups.new.storage })
+        (node_over groups.old.id S.is_well S.shows S.fails groups.old.has_failed (get nat_cmp groups.old.members) groups.old.storage)
+        (node_over groups.old.id S.is_well S.shows S.fails groups.new.has_failed (get nat_cmp groups.new.members) groups.new.storage)
         frame.now now result }
     ensures same { IsTurnedAway result → groups.new ≡ groups.old }
     ensures id { groups.new.id ≡ groups.old.id }
@@ -135,8 +135,8 @@ pub fn receive_frame<S: GroupStorage<Snapshot = SnapshotBytes>>(
     now: u64,
 ) -> Result<Outcome, AnswerError<S::Fault>>
     ensures takes { IsFrom (is_right_party groups.old.id peer frame.now) groups.old groups.new (IsFrameTaken S.stands
-        (record { own = groups.old.id; has_failed = groups.old.has_failed; members = get nat_cmp groups.old.members; is_well = S.is_well groups.old.storage; shows = S.shows groups.old.storage; fails = S.fails groups.old.storage })
-        (record { own = groups.old.id; has_failed = groups.new.has_failed; members = get nat_cmp groups.new.members; is_well = S.is_well groups.new.storage; shows = S.shows groups.new.storage; fails = S.fails groups.new.storage })
+        (node_over groups.old.id S.is_well S.shows S.fails groups.old.has_failed (get nat_cmp groups.old.members) groups.old.storage)
+        (node_over groups.old.id S.is_well S.shows S.fails groups.new.has_failed (get nat_cmp groups.new.members) groups.new.storage)
         frame.now now result) result }
     ensures same { IsTurnedAway result → groups.new ≡ groups.old }
     ensures id { groups.new.id ≡ groups.old.id }
@@ -165,8 +165,8 @@ pub fn answer_piece<S: GroupStorage<Snapshot = SnapshotBytes>>(
     now: u64,
 ) -> Answer<S::Fault>
     ensures answers { IsAnswered groups.old.id peer groups.old groups.new (λ frame. IsFrameTaken S.stands
-        (record { own = groups.old.id; has_failed = groups.old.has_failed; members = get nat_cmp groups.old.members; is_well = S.is_well groups.old.storage; shows = S.shows groups.old.storage; fails = S.fails groups.old.storage })
-        (record { own = groups.old.id; has_failed = groups.new.has_failed; members = get nat_cmp groups.new.members; is_well = S.is_well groups.new.storage; shows = S.shows groups.new.storage; fails = S.fails groups.new.storage })
+        (node_over groups.old.id S.is_well S.shows S.fails groups.old.has_failed (get nat_cmp groups.old.members) groups.old.storage)
+        (node_over groups.old.id S.is_well S.shows S.fails groups.new.has_failed (get nat_cmp groups.new.members) groups.new.storage)
         frame now result.outcome) feeder.old.feeding piece.now result feeder.new.feeding }
     ensures id { groups.new.id ≡ groups.old.id }
     ensures met { S.meets groups.old.storage groups.new.storage (fault_met_by_answer result.outcome) }

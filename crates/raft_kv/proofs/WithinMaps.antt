@@ -25,11 +25,11 @@ use Rattle.raft_kv.proofs.Maps.{from_rising, passes, same_key}
 
 -- ---- the entries of a map, and what its keys have
 
-first_of : (a b : Bool) → T (a && b) → T a
+pub first_of : (a b : Bool) → T (a && b) → T a
 first_of true b p = tt
 first_of false b p = absurd p
 
-second_of : (a b : Bool) → T (a && b) → T b
+pub second_of : (a b : Bool) → T (a && b) → T b
 second_of true b p = p
 second_of false b p = absurd p
 

@@ -15,6 +15,7 @@ use Rattle.raft_kv.specs.declared.command.KvCommand.{KvCommand}
 use Rattle.raft_kv.specs.declared.command.KvCommand.TheVariants.{Put, Get, Drop}
 use Rattle.raft_kv.specs.Map.{Map, Pair, in_order}
 use Rattle.raft_kv.specs.Machine.{is_full_for}
+use Rattle.raft_kv.proofs.WithinMaps.{first_of, second_of}
 use Rattle.raft_kv_reading.specs.Values.{Key, Value, command_on, is_refused}
 use Rattle.raft_kv_reading.specs.Answers.{AreKeysBefore, IsRefusedByFullMap}
 use Rattle.raft_kv_reading.proofs.Fronts.{all_spelled, answer_by, answer_here, front_map, front_state}
@@ -22,14 +23,6 @@ use Rattle.raft_kv_reading.proofs.Changes.{never_two, value_is}
 use Rattle.raft_kv_reading.proofs.Telling.{refused_by_map}
 
 -- ---- the keys of a map stand once
-
-first_of : (a b : Bool) → T (a && b) → T a
-first_of true b p = tt
-first_of false b p = absurd p
-
-second_of : (a b : Bool) → T (a && b) → T b
-second_of true b p = p
-second_of false b p = absurd p
 
 less_differs : (o : Ordering) → T (is_lt o) → is_eq o ≡ false
 less_differs Less p = refl

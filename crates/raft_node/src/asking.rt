@@ -106,7 +106,8 @@ impl<M: StateMachine, S: GroupStorage<Snapshot = SnapshotBytes>> Node<M, S> {
         token: Option<u64>,
         now: u64,
     ) -> Fault<S::Fault>
-        ensures ended { (s : GroupState) → token_of_call call.now ≡ option_to_list token → IsAt M.rules (value_of M.state S.is_well S.shows S.fails self.old) group s → IsLawful self.old.groups.id s
+        ensures ended { (s : GroupState) → token_of_call call.now ≡ option_to_list token
+            → IsAt M.rules (value_of M.state S.is_well S.shows S.fails self.old) group s → IsLawful self.old.groups.id s
             → HasEnded M.rules S.stands (value_of M.state S.is_well S.shows S.fails self.new) group s (Call call.now now) (Err result) }
         ensures elsewhere { StaysElse {T = Outcome} (value_of M.state S.is_well S.shows S.fails self.old) (value_of M.state S.is_well S.shows S.fails self.new) group (Err result) }
         ensures fault { storage_fault_of result ≡ None }
@@ -130,7 +131,8 @@ impl<M: StateMachine, S: GroupStorage<Snapshot = SnapshotBytes>> Node<M, S> {
         now: u64,
     ) -> Result<Outcome, Fault<S::Fault>>
         ensures event { token_of_call call.now ≡ [] → (call.now ≡ TriggerSnapshot → ⊥)
-            → IsEvent M.rules S.stands (self.new ≡ self.old) (value_of M.state S.is_well S.shows S.fails self.old) (value_of M.state S.is_well S.shows S.fails self.new) group (Call call.now now) result }
+            → IsEvent M.rules S.stands (self.new ≡ self.old) (value_of M.state S.is_well S.shows S.fails self.old)
+            (value_of M.state S.is_well S.shows S.fails self.new) group (Call call.now now) result }
         ensures met { S.meets self.old.groups.storage self.new.groups.storage (fault_met_by_node result) }
     {
         let answered = ask_group(self.alloc, &mut self.groups, group, call, None, now);
@@ -203,7 +205,8 @@ impl<M: StateMachine, S: GroupStorage<Snapshot = SnapshotBytes>> Node<M, S> {
         now: u64,
     ) -> Result<Outcome, Fault<S::Fault>>
         ensures event { token_of_call call.now ≡ token ∷ []
-            → IsEvent M.rules S.stands (self.new ≡ self.old) (value_of M.state S.is_well S.shows S.fails self.old) (value_of M.state S.is_well S.shows S.fails self.new) group (Call call.now now) result }
+            → IsEvent M.rules S.stands (self.new ≡ self.old) (value_of M.state S.is_well S.shows S.fails self.old)
+            (value_of M.state S.is_well S.shows S.fails self.new) group (Call call.now now) result }
         ensures met { S.meets self.old.groups.storage self.new.groups.storage (fault_met_by_node result) }
     {
         if self.groups.has_failed {

@@ -105,7 +105,8 @@ impl<M: StateMachine, S: GroupStorage<Snapshot = SnapshotBytes>> Node<M, S> {
         piece: &[u8],
         now: u64,
     ) -> Step<S::Fault>
-        ensures next { TakesNext M.rules S.stands (value_of M.state S.is_well S.shows S.fails self.old) (value_of M.state S.is_well S.shows S.fails self.new) peer now piece.now result.used result.outcome }
+        ensures next { TakesNext M.rules S.stands (value_of M.state S.is_well S.shows S.fails self.old)
+            (value_of M.state S.is_well S.shows S.fails self.new) peer now piece.now result.used result.outcome }
         ensures within { result.used ≤ length piece.now }
         ensures progress { IfOk result.outcome (λ came. IfSome came (λ o. 0 < result.used)) }
         ensures items { outcomes.new.items ≡ outcomes.old.items }

@@ -5,7 +5,8 @@ use Rattle.std.specs.Str.{IsUtf8}
 use Rattle.raft_script_lines.specs.declared.script_line.CrashChoice.{CrashChoice}
 use Rattle.raft_script_lines.specs.declared.script_line.CrashChoice.TheVariants.{Least, Most}
 use Rattle.raft_script_lines.specs.declared.script_line.ScriptEvent.{ScriptEvent}
-use Rattle.raft_script_lines.specs.declared.script_line.ScriptEvent.TheVariants.{Add, Init, Propose, Put, Get, Drop, Elect, Heartbeat, Lost, Snapshot, Purge, Addr, Voters, Deliver, Clean, Crash, Reopen}
+use Rattle.raft_script_lines.specs.declared.script_line.ScriptEvent.TheVariants.{Add, Init, Propose, Put, Get, Drop, Elect, Heartbeat, Lost}
+use Rattle.raft_script_lines.specs.declared.script_line.ScriptEvent.TheVariants.{Snapshot, Purge, Addr, Voters, Deliver, Clean, Crash, Reopen}
 use Rattle.raft_script_lines.specs.declared.script_line.ScriptLine.{ScriptLine}
 use Rattle.raft_script_lines.specs.declared.script_line.ScriptLine.TheVariants.{Skipped, Nodes, Kv, Now, Total, Happens, Fuse}
 use Rattle.raft_script_lines.specs.Words.{words_of, is_empty_word, longest_key, longest_line, longest_value, number_of, has_twice}

@@ -82,7 +82,8 @@ LeavesWell misuse well cleaning (Some (Refused refused)) = Unit {0}
 
 -- Calls led from one store to another and met this fault, or none: what that is to the log, what is noted of it, and what they
 -- leave of a store that was used well.
-pub record Meets {F : Type 0} (log_meets : Option F → Type 0) (misuse : F → Type 0) (well_before well_after : Type 0) (refused : Option StoreRefusal) (cleaning : Bool) (met : Option (StoreFault F)) : Type 0 where
+pub record Meets {F : Type 0} (log_meets : Option F → Type 0) (misuse : F → Type 0) (well_before well_after : Type 0)
+    (refused : Option StoreRefusal) (cleaning : Bool) (met : Option (StoreFault F)) : Type 0 where
   pub log : log_meets (option_and_then log_fault met)
   pub noted : IsNoted met refused
   pub used_well : well_before → LeavesWell misuse well_after cleaning met

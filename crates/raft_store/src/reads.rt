@@ -56,7 +56,8 @@ impl<M: StateMachine, L: ContentLog> Store<M, L> {
         ensures cause { IfErr result (IsLogOrMemory L.is_misuse) }
         ensures well { L.is_sound self.old.log → OnOk result (L.is_sound self.new.log) }
         ensures steady { L.is_sound self.new.log → L.is_sound self.old.log × (L.answers self.new.log ≡ L.answers self.old.log) }
-        ensures kept { (rules : MachineRules) → KeepsAll (ShowsBy rules L.is_sound L.answers L.leaves self.old.log self.old.recent) (ShowsBy rules L.is_sound L.answers L.leaves self.new.log self.new.recent) }
+        ensures kept { (rules : MachineRules) → KeepsAll (ShowsBy rules L.is_sound L.answers L.leaves self.old.log self.old.recent)
+            (ShowsBy rules L.is_sound L.answers L.leaves self.new.log self.new.recent) }
         ensures met { L.meets self.old.log self.new.log (option_and_then log_fault (result_err result)) }
         ensures refused { self.new.refused ≡ self.old.refused }
         ensures cleaning { self.new.failed_cleaning ≡ self.old.failed_cleaning }
@@ -77,7 +78,8 @@ impl<M: StateMachine, L: ContentLog> Store<M, L> {
         ensures entries { L.is_sound self.old.log → IfOk result (λ found. AreEntries (L.answers self.old.log group).entry begin end (payloads found.items)) }
         ensures cause { L.is_sound self.old.log → begin < end → AreThere (L.answers self.old.log group).entry begin end → IfErr result (IsLogOrMemory L.is_misuse) }
         ensures well { L.is_sound self.old.log → OnOk result (L.is_sound self.new.log) }
-        ensures kept { (rules : MachineRules) → KeepsAll (ShowsBy rules L.is_sound L.answers L.leaves self.old.log self.old.recent) (ShowsBy rules L.is_sound L.answers L.leaves self.new.log self.new.recent) }
+        ensures kept { (rules : MachineRules) → KeepsAll (ShowsBy rules L.is_sound L.answers L.leaves self.old.log self.old.recent)
+            (ShowsBy rules L.is_sound L.answers L.leaves self.new.log self.new.recent) }
         ensures met { L.meets self.old.log self.new.log (option_and_then log_fault (result_err result)) }
         ensures refused { self.new.refused ≡ self.old.refused }
         ensures cleaning { self.new.failed_cleaning ≡ self.old.failed_cleaning }
@@ -99,7 +101,8 @@ impl<M: StateMachine, L: ContentLog> Store<M, L> {
         ensures cause { (rules : MachineRules) (s : StoredGroup) → L.is_sound self.old.log → ShowsBy rules L.is_sound L.answers L.leaves self.old.log self.old.recent group (s ∷ [])
             → IfErr result (IsLogOrMemory L.is_misuse) }
         ensures well { L.is_sound self.old.log → OnOk result (L.is_sound self.new.log) }
-        ensures kept { (rules : MachineRules) → KeepsAll (ShowsBy rules L.is_sound L.answers L.leaves self.old.log self.old.recent) (ShowsBy rules L.is_sound L.answers L.leaves self.new.log self.new.recent) }
+        ensures kept { (rules : MachineRules) → KeepsAll (ShowsBy rules L.is_sound L.answers L.leaves self.old.log self.old.recent)
+            (ShowsBy rules L.is_sound L.answers L.leaves self.new.log self.new.recent) }
         ensures met { L.meets self.old.log self.new.log (option_and_then log_fault (result_err result)) }
         ensures refused { self.new.refused ≡ self.old.refused }
         ensures cleaning { self.new.failed_cleaning ≡ self.old.failed_cleaning }
@@ -119,7 +122,8 @@ impl<M: StateMachine, L: ContentLog> Store<M, L> {
         ensures cause { IfErr result (IsLogOrMemory L.is_misuse) }
         ensures well { L.is_sound self.old.log → OnOk result (L.is_sound self.new.log) }
         ensures steady { L.is_sound self.new.log → L.is_sound self.old.log × (L.answers self.new.log ≡ L.answers self.old.log) }
-        ensures kept { (rules : MachineRules) → KeepsAll (ShowsBy rules L.is_sound L.answers L.leaves self.old.log self.old.recent) (ShowsBy rules L.is_sound L.answers L.leaves self.new.log self.new.recent) }
+        ensures kept { (rules : MachineRules) → KeepsAll (ShowsBy rules L.is_sound L.answers L.leaves self.old.log self.old.recent)
+            (ShowsBy rules L.is_sound L.answers L.leaves self.new.log self.new.recent) }
         ensures met { L.meets self.old.log self.new.log (option_and_then log_fault (result_err result)) }
         ensures refused { self.new.refused ≡ self.old.refused }
         ensures cleaning { self.new.failed_cleaning ≡ self.old.failed_cleaning }
@@ -134,7 +138,8 @@ impl<M: StateMachine, L: ContentLog> Store<M, L> {
         ensures cause { (rules : MachineRules) (s : StoredGroup) → L.is_sound self.old.log → ShowsBy rules L.is_sound L.answers L.leaves self.old.log self.old.recent group (s ∷ [])
             → IfErr result (IsLogOrMemory L.is_misuse) }
         ensures well { L.is_sound self.old.log → OnOk result (L.is_sound self.new.log) }
-        ensures kept { (rules : MachineRules) → KeepsAll (ShowsBy rules L.is_sound L.answers L.leaves self.old.log self.old.recent) (ShowsBy rules L.is_sound L.answers L.leaves self.new.log self.new.recent) }
+        ensures kept { (rules : MachineRules) → KeepsAll (ShowsBy rules L.is_sound L.answers L.leaves self.old.log self.old.recent)
+            (ShowsBy rules L.is_sound L.answers L.leaves self.new.log self.new.recent) }
         ensures met { L.meets self.old.log self.new.log (option_and_then log_fault (result_err result)) }
         ensures refused { self.new.refused ≡ self.old.refused }
         ensures cleaning { self.new.failed_cleaning ≡ self.old.failed_cleaning }
@@ -154,7 +159,8 @@ impl<M: StateMachine, L: ContentLog> Store<M, L> {
             → first_place s ≤ places.start → places.end ≤ max (end_place s) places.start
             → MatchResult result (λ found. found.items ≡ take (places.end - places.start) (drop (places.start - first_place s) s.log)) (IsLogOrMemory L.is_misuse) }
         ensures well { L.is_sound self.old.log → OnOk result (L.is_sound self.new.log) }
-        ensures kept { (rules : MachineRules) → KeepsAll (ShowsBy rules L.is_sound L.answers L.leaves self.old.log self.old.recent) (ShowsBy rules L.is_sound L.answers L.leaves self.new.log self.new.recent) }
+        ensures kept { (rules : MachineRules) → KeepsAll (ShowsBy rules L.is_sound L.answers L.leaves self.old.log self.old.recent)
+            (ShowsBy rules L.is_sound L.answers L.leaves self.new.log self.new.recent) }
         ensures met { L.meets self.old.log self.new.log (option_and_then log_fault (result_err result)) }
         ensures refused { self.new.refused ≡ self.old.refused }
         ensures cleaning { self.new.failed_cleaning ≡ self.old.failed_cleaning }
@@ -199,7 +205,8 @@ impl<M: StateMachine, L: ContentLog> Store<M, L> {
             → IfOk result (λ copy. StandsOrNone (StandsFor rules) copy s.snapshot) }
         ensures cause { (rules : MachineRules) (s : StoredGroup) → L.is_sound self.old.log → ShowsBy rules L.is_sound L.answers L.leaves self.old.log self.old.recent group (s ∷ [])
             → IfErr result (IsLogOrMemory L.is_misuse) }
-        ensures kept { (rules : MachineRules) → KeepsAll (ShowsBy rules L.is_sound L.answers L.leaves self.old.log self.old.recent) (ShowsBy rules L.is_sound L.answers L.leaves self.new.log self.new.recent) }
+        ensures kept { (rules : MachineRules) → KeepsAll (ShowsBy rules L.is_sound L.answers L.leaves self.old.log self.old.recent)
+            (ShowsBy rules L.is_sound L.answers L.leaves self.new.log self.new.recent) }
         ensures met { L.meets self.old.log self.new.log (option_and_then log_fault (result_err result)) }
         ensures refused { self.new.refused ≡ self.old.refused }
         ensures cleaning { self.new.failed_cleaning ≡ self.old.failed_cleaning }
@@ -223,7 +230,8 @@ impl<M: StateMachine, L: ContentLog> Store<M, L> {
             → IfOk result (λ copies. copies ≡ entries_of s prev last) }
         ensures cause { (rules : MachineRules) (s : StoredGroup) → L.is_sound self.old.log → ShowsBy rules L.is_sound L.answers L.leaves self.old.log self.old.recent group (s ∷ [])
             → IfErr result (IsLogOrMemory L.is_misuse) }
-        ensures kept { (rules : MachineRules) → KeepsAll (ShowsBy rules L.is_sound L.answers L.leaves self.old.log self.old.recent) (ShowsBy rules L.is_sound L.answers L.leaves self.new.log self.new.recent) }
+        ensures kept { (rules : MachineRules) → KeepsAll (ShowsBy rules L.is_sound L.answers L.leaves self.old.log self.old.recent)
+            (ShowsBy rules L.is_sound L.answers L.leaves self.new.log self.new.recent) }
         ensures met { L.meets self.old.log self.new.log (option_and_then log_fault (result_err result)) }
         ensures refused { self.new.refused ≡ self.old.refused }
         ensures cleaning { self.new.failed_cleaning ≡ self.old.failed_cleaning }
@@ -244,7 +252,8 @@ impl<M: StateMachine, L: ContentLog> Store<M, L> {
             → IfOk result (λ loaded. IsLoaded loaded s) }
         ensures cause { (rules : MachineRules) (s : StoredGroup) → L.is_sound self.old.log → ShowsBy rules L.is_sound L.answers L.leaves self.old.log self.old.recent group (s ∷ [])
             → IfErr result (IsLogOrMemory L.is_misuse) }
-        ensures kept { (rules : MachineRules) → KeepsAll (ShowsBy rules L.is_sound L.answers L.leaves self.old.log self.old.recent) (ShowsBy rules L.is_sound L.answers L.leaves self.new.log self.new.recent) }
+        ensures kept { (rules : MachineRules) → KeepsAll (ShowsBy rules L.is_sound L.answers L.leaves self.old.log self.old.recent)
+            (ShowsBy rules L.is_sound L.answers L.leaves self.new.log self.new.recent) }
         ensures met { L.meets self.old.log self.new.log (option_and_then log_fault (result_err result)) }
         ensures refused { self.new.refused ≡ self.old.refused }
         ensures cleaning { self.new.failed_cleaning ≡ self.old.failed_cleaning }
@@ -271,7 +280,8 @@ impl<M: StateMachine, L: ContentLog> Store<M, L> {
         ensures ok { (rules : MachineRules) (group : ℕ) (s : StoredGroup) → L.is_sound self.old.log → ShowsBy rules L.is_sound L.answers L.leaves self.old.log self.old.recent group (s ∷ [])
             → IfOk result (λ ids. is_member (eq_by_cmp nat_cmp) ids.items group ≡ s.present) }
         ensures cause { IfErr result (IsLogOrMemory L.is_misuse) }
-        ensures kept { (rules : MachineRules) → KeepsAll (ShowsBy rules L.is_sound L.answers L.leaves self.old.log self.old.recent) (ShowsBy rules L.is_sound L.answers L.leaves self.new.log self.new.recent) }
+        ensures kept { (rules : MachineRules) → KeepsAll (ShowsBy rules L.is_sound L.answers L.leaves self.old.log self.old.recent)
+            (ShowsBy rules L.is_sound L.answers L.leaves self.new.log self.new.recent) }
         ensures met { L.meets self.old.log self.new.log (option_and_then log_fault (result_err result)) }
         ensures refused { self.new.refused ≡ self.old.refused }
         ensures cleaning { self.new.failed_cleaning ≡ self.old.failed_cleaning }
@@ -289,7 +299,8 @@ impl<M: StateMachine, L: ContentLog> Store<M, L> {
         ensures ids { L.is_sound self.old.log → IfOk result (λ ids. ids.items ≡ filter (λ group. is_some ((L.answers self.old.log group).value group_key)) groups.items) }
         ensures cause { IfErr result (IsLogOrMemory L.is_misuse) }
         ensures well { L.is_sound self.old.log → OnOk result (L.is_sound self.new.log) }
-        ensures kept { (rules : MachineRules) → KeepsAll (ShowsBy rules L.is_sound L.answers L.leaves self.old.log self.old.recent) (ShowsBy rules L.is_sound L.answers L.leaves self.new.log self.new.recent) }
+        ensures kept { (rules : MachineRules) → KeepsAll (ShowsBy rules L.is_sound L.answers L.leaves self.old.log self.old.recent)
+            (ShowsBy rules L.is_sound L.answers L.leaves self.new.log self.new.recent) }
         ensures met { L.meets self.old.log self.new.log (option_and_then log_fault (result_err result)) }
         ensures refused { self.new.refused ≡ self.old.refused }
         ensures cleaning { self.new.failed_cleaning ≡ self.old.failed_cleaning }
@@ -311,7 +322,8 @@ impl<M: StateMachine, L: ContentLog> Store<M, L> {
         ensures cause { IfErr result (IsLogOrMemory L.is_misuse) }
         ensures well { L.is_sound self.old.log → OnOk result (L.is_sound self.new.log) }
         ensures steady { L.is_sound self.new.log → L.is_sound self.old.log × (L.answers self.new.log ≡ L.answers self.old.log) }
-        ensures kept { (rules : MachineRules) → KeepsAll (ShowsBy rules L.is_sound L.answers L.leaves self.old.log self.old.recent) (ShowsBy rules L.is_sound L.answers L.leaves self.new.log self.new.recent) }
+        ensures kept { (rules : MachineRules) → KeepsAll (ShowsBy rules L.is_sound L.answers L.leaves self.old.log self.old.recent)
+            (ShowsBy rules L.is_sound L.answers L.leaves self.new.log self.new.recent) }
         ensures met { L.meets self.old.log self.new.log (option_and_then log_fault (result_err result)) }
         ensures refused { self.new.refused ≡ self.old.refused }
         ensures cleaning { self.new.failed_cleaning ≡ self.old.failed_cleaning }

@@ -2,7 +2,8 @@
 use Rattle.std.specs.Prelude.{Bool, true, false, ◌==◌, nat_le, nat_lt, List, [], ◌∷◌, Option, Some, None}
 use Rattle.raft_timers.specs.declared.config.TimerSettings.{TimerSettings}
 use Rattle.raft_timers.specs.declared.config.TimerFault.{TimerFault}
-use Rattle.raft_timers.specs.declared.config.TimerFault.TheVariants.{NoHeartbeatInterval, ElectionWithinHeartbeat, NoElectionRange, NoRequestTimeout, RequestLimitTooLow, NoSnapshotEntries, NoCleanInterval}
+use Rattle.raft_timers.specs.declared.config.TimerFault.TheVariants.{NoHeartbeatInterval, ElectionWithinHeartbeat, NoElectionRange}
+use Rattle.raft_timers.specs.declared.config.TimerFault.TheVariants.{NoRequestTimeout, RequestLimitTooLow, NoSnapshotEntries, NoCleanInterval}
 
 -- the first reason whose test holds
 abbrev pub first_of : List (Bool × TimerFault) → Option TimerFault

@@ -1,10 +1,9 @@
 -- Each frame goes behind the others; the first message that isn't framed is one of them.
-use Rattle.std.proofs.Common.{◌≡◌, ◌∷◌, [], ◌++◌, cond, length, sym, ap, subst, ◌∙◌, append_assoc, append-nil, arith, inl, refl}
+use Rattle.std.proofs.Common.{◌≡◌, ◌∷◌, [], ◌++◌, cond, length, sym, ap, subst, ◌∙◌, append_assoc, append-nil, arith}
 use Rattle.std.specs.List.{AllZip}
 use Rattle.std.proofs.lemmas.List.{nil_from_length}
-use Rattle.std.proofs.lemmas.List.Elements.{Contains-append_right}
 use Rattle.std.specs.Vec.Iter.{into_iter_items}
-use Rattle.raft_framed_groups.specs.Frames.{AnyNotFramed, IsFramed}
+use Rattle.raft_framed_groups.specs.Frames.{IsFramed}
 use Rattle.raft_framed_groups.proofs.FramedLemmas.{zip_push}
 use Rattle.raft_framed_groups.proofs.frames.frames_of.Goals as goal
 
