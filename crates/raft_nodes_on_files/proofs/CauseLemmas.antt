@@ -89,10 +89,10 @@ of_cause failed old new (cause.Frame (frame_error.Fault f)) met = tt
 
 -- ---- an event
 
-stopped_is : (s t : Stop) → Stopped s ≡ Stopped t → s ≡ t
+pub stopped_is : (s t : Stop) → Stopped s ≡ Stopped t → s ≡ t
 stopped_is s t is = cc
 
-err_is : {T E : Type 0} (r : Result T E) (e f : E) → r ≡ Err e → r ≡ Err f → e ≡ f
+pub err_is : {T E : Type 0} (r : Result T E) (e f : E) → r ≡ Err e → r ≡ Err f → e ≡ f
 err_is r e f one other = cc
 
 pub same_some : {A : Type 0} (x y : A) → Some x ≡ Some y → x ≡ y

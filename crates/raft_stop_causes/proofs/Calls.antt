@@ -59,8 +59,9 @@ use Rattle.raft_nodes_on_logs.proofs.Keeping.{spelled_some}
 use Rattle.raft_nodes_on_logs.proofs.Pieces.{CameWhole, LackedRoom, pieces_come}
 use Rattle.raft_nodes_on_logs.proofs.Standing.{is_up_in, machines_law, stands_before}
 use Rattle.raft_nodes_on_logs.proofs.Taken.{Answer}
+use Rattle.raft_nodes_on_files.proofs.CauseLemmas.{err_is, same_some, stopped_is}
 use Rattle.raft_stop_causes.specs.Causes.{IsLedTo, IsOwnCause, StopsAtPiece}
-use Rattle.raft_stop_causes.proofs.Events.{adding_cause, adding_stopped, err_is, event_cause, event_stopped, shown_parts, used_well, was_sent}
+use Rattle.raft_stop_causes.proofs.Events.{adding_cause, adding_stopped, event_cause, event_stopped, shown_parts, used_well, was_sent}
 
 -- ---- an answer that is a stop
 
@@ -71,11 +72,8 @@ pub record IsMetStop {F : Type 0} (log_cause : F → StopCause) (why : Fault (St
   pub is : why ≡ fault.Stopped cause unknown
   pub named : stop.cause ≡ cause_of log_cause cause
 
-stopped_same : (s t : Stop) → Stopped s ≡ Stopped t → s ≡ t
-stopped_same s t is = cc
-
 pub stop_met : {F : Type 0} (log_cause : F → StopCause) (why : Fault (StoreFault F)) (stop : Stop) → error_of log_cause why ≡ Stopped stop → IsMetStop log_cause why stop
-stop_met log_cause (fault.Stopped c unknown) stop is = record { cause = c; unknown = unknown; is = refl; named = ap (λ (s : Stop). s.cause) (sym (stopped_same _ stop is)) }
+stop_met log_cause (fault.Stopped c unknown) stop is = record { cause = c; unknown = unknown; is = refl; named = ap (λ (s : Stop). s.cause) (sym (stopped_is _ stop is)) }
 stop_met log_cause (fault.NotLeader leader) stop is = absurd cc
 stop_met log_cause fault.UnknownGroup stop is = absurd cc
 stop_met log_cause fault.GroupExists stop is = absurd cc
@@ -98,14 +96,11 @@ memory_in log_cause (fault.Stopped c unknown) is = ap (cause_of log_cause) is
 memory_in log_cause other is = absurd is
 
 memory_stop : {F : Type 0} (log_cause : F → StopCause) (why : Fault (StoreFault F)) (stop : Stop) → IsStoppedBy cause.Memory why → error_of log_cause why ≡ Stopped stop → stop.cause ≡ stop_cause.Memory
-memory_stop log_cause (fault.Stopped c unknown) stop by is = ap (λ (s : Stop). s.cause) (sym (stopped_same _ stop is)) ∙ ap (cause_of log_cause) by
+memory_stop log_cause (fault.Stopped c unknown) stop by is = ap (λ (s : Stop). s.cause) (sym (stopped_is _ stop is)) ∙ ap (cause_of log_cause) by
 memory_stop log_cause other stop by is = absurd by
 
 ok_no_stop : {T : Type 0} (x : T) (e : NodeError) → Ok x ≡ Err e → ⊥
 ok_no_stop x e wrong = absurd cc
-
-same_some : {A : Type 0} (x y : A) → Some x ≡ Some y → x ≡ y
-same_some x y is = cc
 
 stopped_alike : {F : Type 0} (call : GroupCall) (c : Cause F) (unknown : Vec UnknownTokens Global) → without_its_why {T = Outcome} {F = F} call (Err (fault.Stopped c unknown)) ≡ Err (fault.Stopped c unknown)
 stopped_alike (Initialize m) c unknown = refl
@@ -131,7 +126,7 @@ module _ (k : NodeKind) (short : HasShortSnapshots k.rules) (begins : KeepsItsLa
       → ((c : Cause (KeepingFault k)) (unknown : Vec UnknownTokens Global) → result ≡ Err (fault.Stopped c unknown) → IsOwnCause k n mid (cause_of k.cause c)) → IsOwnCause k n m stop.cause
   passed_cause old new n mid m (Ok o) answered stop up err (inl (is, at)) when = absurd (ok_no_stop _ _ (sym is ∙ err))
   passed_cause old new n mid m (Ok o) answered stop up err (inr b) when =
-      let is : stop_behind (node_outcome o) (stop_in k.cause b.why) ≡ stop = stopped_same _ stop (err_is answered _ _ b.answer err) in
+      let is : stop_behind (node_outcome o) (stop_in k.cause b.why) ≡ stop = stopped_is _ stop (err_is answered _ _ b.answer err) in
       inl (ap (λ (s : Stop). s.cause) (sym is) ∙ memory_in k.cause b.why b.fails.0)
   passed_cause old new n mid m (Err why) answered stop up err (is, at) when =
       let s = stop_met k.cause why stop (err_is answered _ _ is err) in

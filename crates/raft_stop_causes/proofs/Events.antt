@@ -46,11 +46,9 @@ use Rattle.raft_nodes_on_logs.specs.Answering.{cause_of}
 use Rattle.raft_nodes_on_logs.specs.Kept.{KeepingFault, is_used_well}
 use Rattle.raft_nodes_on_logs.specs.Kinds.{NodeKind}
 use Rattle.raft_nodes_on_logs.specs.Standing.{UpNode, value}
+use Rattle.raft_nodes_on_files.proofs.CauseLemmas.{err_is}
 use Rattle.raft_stop_causes.specs.Causes.{IsOwnCause}
 use Rattle.raft_stop_causes.proofs.Stored.{none_unframed, stored_all, stored_cause}
-
-pub err_is : {T E : Type 0} (r : Result T E) (e f : E) → r ≡ Err e → r ≡ Err f → e ≡ f
-err_is r e f one other = cc
 
 stop_is_no : {F : Type 0} (c : Cause F) (unknown : Vec UnknownTokens Global) → fault.Stopped c unknown ≡ fault.Failed → ⊥
 stop_is_no c unknown is = absurd cc
