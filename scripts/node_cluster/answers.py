@@ -1,4 +1,9 @@
 """What an answer of raft_node_files says; docs/SCRIPT.md has its words."""
+import re
+
+# What a tick asked for stands behind it, each thing behind "; ". No word that follows a value is one of these.
+PARTS = re.compile(r"; (?=(?:elect|heartbeat|lost|snapshot|purge|clean|no quorum|refused)\b)")
+ASKED = re.compile(r"(?:elect|heartbeat|lost|snapshot|purge|clean)[ 0-9]*: ")
 
 
 class Answer:
@@ -12,8 +17,16 @@ class Answer:
         self.refusal = None    # (number, name)
         self.leader = None     # whom a refusal names
         self.total = None      # (total, place), each as text
-        # A value has no space, so this stands in none.
-        words = iter(text.replace("; refused ", " refused ", 1).split(" "))
+        self.moment = None     # that of a tick
+        self.no_quorum = []    # groups that the node leads, and that have none
+        self.has_failed = False    # the node takes nothing more
+        for part in PARTS.split(text):
+            if part.startswith("no quorum "):
+                self.no_quorum.append(int(part.split(" ")[2]))
+            else:
+                self._read(iter(ASKED.sub("", part, count=1).split(" ")))
+
+    def _read(self, words):
         for word in words:
             if word.startswith(">"):
                 peer, data = word[1:].split(":")
@@ -28,17 +41,19 @@ class Answer:
             elif word == "compact":
                 self.compact.append(int(next(words)))
             elif word == "refused":
-                self.refusal = next(words), next(words)
-                if self.refusal[1] == "NotLeader":
-                    leader = next(words)
-                    self.leader = None if leader == "-" else int(leader)
+                self._refuse(words)
             elif word == "total":
                 total, _, place = words
                 self.total = total, place
+            elif word == "tick":
+                self.moment = int(next(words))
             elif word != "ok":
                 raise ValueError(f"a node answers {self.text[:200]}")
 
-    def has_failed(self):
-        """Whether the node takes nothing more."""
-        number, name = self.refusal or ("", "")
-        return name in ("Stopped", "Failed", "NodeDown") or number.startswith("S")
+    def _refuse(self, words):
+        number, name = self.refusal = next(words), next(words)
+        if name == "NotLeader":
+            leader = next(words)
+            self.leader = None if leader == "-" else int(leader)
+        if name in ("Stopped", "Failed", "NodeDown") or number.startswith("S"):
+            self.has_failed = True

@@ -2,8 +2,8 @@
 import dataclasses
 
 VOTE, VOTE_REPLY, APPEND, APPEND_REPLY, SNAPSHOT, SNAPSHOT_REPLY = range(1, 7)
-REQUESTS, REPLIES = (APPEND, SNAPSHOT), (APPEND_REPLY, SNAPSHOT_REPLY)
-COMMAND, MEMBERSHIP, HIGHER_VOTE = 1, 2, 2
+REPLIES = APPEND_REPLY, SNAPSHOT_REPLY
+COMMAND, MEMBERSHIP = 1, 2
 
 
 @dataclasses.dataclass
@@ -13,20 +13,11 @@ class Frame:
     sender: int
     addressee: int
     vote: tuple                # term, node, whether a quorum granted it
-    number: int = None         # of a request, and of the reply to it
-    is_taken: bool = False     # of a reply: the vote is granted, or no higher one refuses the request
     previous: tuple = None     # the log id before the entries
     committed: tuple = None    # a log id
     entries: tuple = ()        # of each its log id, and the bytes of its command or none
     last: tuple = None         # the last log id of a snapshot
     state: bytes = b""         # the machine's bytes in it
-
-    def known(self):
-        """The place up to which the list is committed for an addressee that takes this request."""
-        if self.last:
-            return self.last[2]
-        end = self.entries[-1][0] if self.entries else self.previous
-        return min(self.committed[2], end[2]) if self.committed and end else 0
 
 
 class _Bytes:
@@ -64,17 +55,12 @@ def read_frame(data):
     of = _Bytes(data[4:])
     kind, ids = of.number(1), [of.number() for _ in range(3)]
     frame = Frame(kind, *ids, vote=(of.number(), of.number(), of.number(1) == 1))
-    if frame.kind == VOTE_REPLY:
-        frame.is_taken = of.number(1) == 1
-    elif frame.kind != VOTE:
-        frame.number = of.optional(of.number)
+    if frame.kind in (APPEND, SNAPSHOT):
+        of.optional(of.number)    # the request's
     if frame.kind == APPEND:
         frame.previous, frame.committed = of.optional(of.log_id), of.optional(of.log_id)
         frame.entries = tuple(of.entry() for _ in range(of.number(4)))
     elif frame.kind == SNAPSHOT:
         frame.last, _, _ = of.log_id(), of.optional(of.log_id), of.pass_membership()
         frame.state = of.take(of.number(4))
-    elif frame.kind in REPLIES:
-        _, _, result = of.optional(of.log_id), of.optional(of.log_id), of.number(1)
-        frame.is_taken = result != HIGHER_VOTE
     return frame

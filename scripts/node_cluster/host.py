@@ -1,11 +1,10 @@
-"""A node's host: its process, its socket and its clock, in one thread."""
+"""A node's host: its process, its socket and the ticks that pass for it, in one thread."""
 import asyncio
 import contextlib
 import threading
 import time
 
 from .answers import Answer
-from .clock import Clock
 from .frames import read_frame
 from .messages import ASK, COMMAND, FRAME, LOOPBACK, TELL, message
 from .process import NodeProcess
@@ -13,10 +12,9 @@ from .process import NodeProcess
 GROUP = 7
 # A line has 65,536 bytes at most, and a byte of a frame takes two.
 PIECE = 32000
-
-
-def moment():
-    return int(time.monotonic() * 1000)
+TICK = 0.001           # seconds: the usual settings of clocks take a millisecond
+ROUND = 0.005          # seconds between two rounds of ticks
+MOST_TICKS = 20        # of a round, so that frames come between: by what a host is later, its node's clock is slow
 
 
 class Host(threading.Thread):
@@ -29,7 +27,7 @@ class Host(threading.Thread):
         self.why = "killed"
         self.is_open = threading.Event()       # the opening was answered, or refused
         self.asked = {}                        # token: a client's future
-        self.clock = Clock(GROUP, self.peers, moment())
+        self.has_no_quorum = False             # as the last tick told
         self.process = NodeProcess(program, f"{directory}/{node}", node, ["kv"])
         self.start()
         self.is_open.wait()
@@ -48,7 +46,7 @@ class Host(threading.Thread):
 
     async def live(self):
         self.frames = {peer: asyncio.Queue() for peer in self.peers}
-        self.take(self.process.read(), None)
+        self.take(self.process.read())
         carriers, served = [asyncio.create_task(self.carry(peer)) for peer in self.peers], set()
 
         def serve(*streams):
@@ -62,33 +60,37 @@ class Host(threading.Thread):
                 # One node sets the group up, in its first life: in others it is refused.
                 self.event(f"init {GROUP} {' '.join(map(str, self.ports))}")
             self.is_open.set()
+            until = time.monotonic()
             while self.process.life.poll() is None and not any(task.done() for task in carriers):
-                for line in list(self.clock.due(moment())):
-                    self.event(line)
-                await asyncio.sleep(0.01)
+                ticks = int((time.monotonic() - until) / TICK)
+                until += ticks * TICK
+                self.pass_ticks(min(ticks, MOST_TICKS))
+                await asyncio.sleep(ROUND)
 
-    def event(self, line, fed=None, client=None):
+    def pass_ticks(self, count):
+        """So many ticks pass. All are answered before anything else is asked."""
+        self.process.write(*["tick"] * count)
+        for text in [self.process.read() for _ in range(count)]:
+            answer = self.take(text)
+            self.has_no_quorum = GROUP in answer.no_quorum
+
+    def event(self, line, client=None):
         """The line is run. A client's future is told of its command, at once or later."""
-        self.process.write(f"now {moment()}")
         if client is None:
             self.process.write(line)
         else:
             self.asked[self.process.propose(line)] = client
-        self.process.read()
-        return self.take(self.process.read(), fed)
+        return self.take(self.process.read())
 
-    def take(self, text, fed):
-        """What an answer says is noted, sent and told."""
+    def take(self, text):
+        """What an answer says is sent and told."""
         if text is None:
             raise ConnectionError
         answer = Answer(text)
-        if answer.has_failed():
+        if answer.has_failed:
             self.why = text
             self.process.life.kill()
             raise ConnectionError
-        if answer.refusal is not None and answer.refusal[1] == "NotLeader":
-            self.clock.leads = False
-        self.clock.take(fed, [read_frame(data) for _, data in answer.frames], moment())
         for peer, data in answer.frames:
             self.frames[peer].put_nowait(data)
         texts = [(token, f"told {place} {value}") for token, place, value in answer.told]
@@ -98,8 +100,7 @@ class Host(threading.Thread):
             if not client.done():
                 client.set_result(told)
         if answer.compact:
-            for line in list(self.clock.shorten(0)):
-                self.event(line)
+            self.shorten()
         return answer
 
     async def carry(self, peer):
@@ -131,9 +132,9 @@ class Host(threading.Thread):
             writer.close()
 
     def feed(self, data):
-        frame = read_frame(data)
+        sender = read_frame(data).sender
         for at in range(0, len(data), PIECE):
-            self.event(f"feed {frame.sender} {data[at:at + PIECE].hex()}", frame if at + PIECE >= len(data) else None)
+            self.event(f"feed {sender} {data[at:at + PIECE].hex()}")
 
     async def answer(self, text):
         """What a client is told."""
@@ -141,7 +142,7 @@ class Host(threading.Thread):
             return self.status()
         if not COMMAND.fullmatch(text.encode()):
             return "refused no command"
-        if self.clock.lacks_quorum(moment()):
+        if self.has_no_quorum:
             return "refused no quorum"
         client = asyncio.get_running_loop().create_future()
         answer = self.event(text.replace(" ", f" {GROUP} ", 1), client=client)
@@ -152,8 +153,20 @@ class Host(threading.Thread):
 
     def status(self):
         """What the node says of the group."""
+        return self.words() + (", hears of no quorum" if self.has_no_quorum else "")
+
+    def words(self):
+        """The line of the group's status."""
         self.process.write(f"status {GROUP}")
         text = self.process.read()
         if text is None:
             raise ConnectionError
-        return text + (", hears of no quorum" if self.clock.lacks_quorum(moment()) else "")
+        return text
+
+    def shorten(self):
+        """The node's log begins behind a snapshot of all that is applied, and holds no old file back."""
+        self.event(f"snapshot {GROUP}")
+        words = self.words().split(" ")
+        place = words[words.index("snapshot") + 1]
+        if place != "-":
+            self.event(f"purge {GROUP} {place}")

@@ -14,9 +14,9 @@ class NodeProcess:
         self.held = b""        # what was read, and is no whole line yet
         self.tokens = 0        # so many proposals were written
 
-    def write(self, line):
+    def write(self, *lines):
         try:
-            self.life.stdin.write(line.encode() + b"\n")
+            self.life.stdin.write(b"".join(line.encode() + b"\n" for line in lines))
         except BrokenPipeError:
             pass
 

@@ -49,6 +49,7 @@ stranger_to_all = 7
 """
 TABLE = "| Promise | Function | Clause |\n|---|---|---|\n"
 EDITS = "| What | Edit |\n|---|---|\n"
+THEMES = "| What | Crates | Wrong bodies |\n|---|---|---|\n"
 LAYERS = "| Crate | What it does | Stands on | There |\n|---|---|---|---|\n| raft_low | low | | yes |\n"
 FILES = "| File | What it defines |\n|---|---|\n"
 TREE = {
@@ -59,7 +60,8 @@ TREE = {
     "docs/ARCHITECTURE.md": f"# Plan\n\n## The crates\n\n{LAYERS}| raft_chest | chests | raft_low | yes |\n\n"
                             f"{FILES}| raft_chest/specs/Chest | `IsOpen`, `lid_there` |\n",
     "docs/PROMISES.md": f"# Promises\n\n## Chests (raft_chest)\n\n{TABLE}| a | `impl Box for Chest`, `many_lids` | `opened` |\n"
-                        f"\n{EDITS}| b | `a_lid_stays` (raft_chest) |\n",
+                        f"\n{EDITS}| b | `a_lid_stays` (raft_chest) |\n"
+                        f"\n{THEMES}| c | raft_chest | some 1 |\n| d | all others | some 0 |\n",
     "docs/TESTED.md": "| What | Program | Count | Date | What would fail |\n|---|---|---|---|---|\n"
                       "| c | raft_chest_rows | 3 rows | 2026-01-31 | d |\n"
                       "| c | raft_low, raft_chest_rows | 2 tests; raft_chest_rows: 5 lines | 2026-01-30 | |\n"
@@ -95,6 +97,10 @@ FAULTS = [
     ("`lids_of`, ", "`lids_off`, ", "crates/raft_chest/README.md", "no clause or definition lids_off"),
     ("| a | `impl Box for Chest`, ", "| a | b | `impl Box for Chest`, ", "docs/PROMISES.md", "the row has 4 cells"),
     ("`a_lid_stays` (raft_chest)", "`a_lid_stays` (raft_low)", "docs/PROMISES.md", "no edit a_lid_stays of raft_low"),
+    ("raft_chest | some 1", "raft_chest | some 2", "docs/PROMISES.md", "there are 1 wrong bodies, not some 2"),
+    ("raft_chest | some 1", "raft_chest | 1", "docs/PROMISES.md", "the row has no number"),
+    ("all others", "raft_chest", "docs/PROMISES.md", "raft_chest stands in more than one row"),
+    ("raft_chest | some 1 |\n| d | all others", "raft_low", "docs/PROMISES.md", "no row has the wrong bodies of raft_chest"),
     ("| raft_chest | chests", "| raft_box | chests", "docs/ARCHITECTURE.md", "raft_box isn't in crates.txt"),
     ("| raft_chest | chests | raft_low | yes |\n", "", "docs/ARCHITECTURE.md", "the library raft_chest has no row"),
     ("chests | raft_low |", "chests | raft_chest_rows |", "docs/ARCHITECTURE.md", "raft_chest_rows is no library"),

@@ -7,13 +7,16 @@ ghost use Rattle.raft_disk_uses.specs.Left.{Leaves, LeavesOneOf, found_at};
 use crate::load;
 use raft_log_disk::{CrashChoice, CrashFiles, CrashRefusal, IoFault};
 use std::alloc::Global;
+use thiserror::Error;
 
 /// Why nothing was found out.
-#[derive(Clone, Copy, Debug, PartialEq, Eq)]
+#[derive(Clone, Copy, Debug, PartialEq, Eq, Error)]
 pub enum RestartFault {
     /// The files don't crash so.
+    #[error("the files don't crash so: {0}")]
     Crash(CrashRefusal),
     /// The file couldn't be read.
+    #[error("the file can't be read: {0}")]
     Read(IoFault),
 }
 

@@ -161,7 +161,7 @@ impl Home {
         };
         for outcome in outcomes {
             if outcome.group == clock.group {
-                clock.hear(node, peer, now);
+                clock.timers.hear(node, peer, now);
             }
         }
     }

@@ -19,7 +19,7 @@ impl House {
         Some(self.opened(id, &opened, text))
     }
 
-    // The clock of a group with three voters starts at the node.
+    // The clock of a group starts at the node.
     fn start(
         &mut self,
         alloc: Global,
@@ -28,12 +28,7 @@ impl House {
         now: u64,
         text: &mut String,
     ) -> Option<Told> {
-        let peers = match id {
-            1 => [2, 3],
-            2 => [1, 3],
-            _ => [1, 2],
-        };
-        self.home(id)?.clock = Some(Clock::start(alloc, id, group, peers, now)?);
+        self.home(id)?.clock = Some(Clock::start(alloc, id, group, now)?);
         Some(text.push_str("started"))
     }
 

@@ -13,6 +13,8 @@ use raft_member::Ended;
 use raft_messages::SnapshotBytes;
 use raft_wire::{Fed, Feeder, Frame, FrameError};
 use std::alloc::Global;
+use std::fmt;
+use thiserror::Error;
 
 /// What a piece of a peer's stream did (own).
 #[derive(Drop)]
@@ -28,15 +30,20 @@ pub enum Outcome {
 }
 
 /// Why a piece has no answer (own).
-#[derive(Debug, Drop)]
+#[derive(Debug, Drop, Error)]
+#[error_bound(F: fmt::Display)]
 pub enum AnswerError<F> {
     /// The stream is refused, or memory is lacking for what comes: the node is as before.
+    #[error("the peer's stream: {0}")]
     Stream(FrameError),
     /// The frame isn't the peer's own, or isn't for this node: the node is as before.
+    #[error("the frame isn't the peer's own, or isn't for this node")]
     WrongParty,
     /// The node's groups don't take it.
+    #[error("{0}")]
     Groups(GroupsFault<F>),
     /// The group took its step, and what it sends is lost.
+    #[error("what the event sends has no frame: {0}")]
     Unsent(FrameError),
 }
 

@@ -177,6 +177,13 @@ impl HostLog {
         }
     }
 
+    /// The engine, lent for reading (own): the span and the bytes of its queues, and its groups.
+    pub fn engine(&self) -> &Engine<HostFileSystem>
+        ensures { result.now ≡ self.now.engine }
+    {
+        &self.engine
+    }
+
     /// The files, lent for reading (own).
     pub fn files(&self) -> &HostFileSystem
         ensures { result.now ≡ self.now.engine.files }

@@ -10,7 +10,7 @@ use Rattle.std.specs.Option.{option_map}
 use Rattle.std.proofs.lemmas.Bool.Decides.{nat_tests}
 use Rattle.std.proofs.lemmas.List.Elements.{All-head, All-tail}
 use Rattle.std.proofs.lemmas.Map.Views.{All-keys-insert_entry, All-map-remove_entry, All-values-insert_entry}
-use Rattle.raft_kv.specs.Fields.{IsKey, IsValue}
+use Rattle.raft_wire.specs.Kv.{IsKey, IsValue}
 use Rattle.raft_kv.specs.Machine.{is_full_for}
 use Rattle.raft_kv.specs.Map.{key_count_limit, Tree, map_of, tree_order, IsTreeWithin, IsWithin, KeyFits, ValueFits}
 use Rattle.raft_kv.proofs.Maps.{bytes_of, get_of, len_of, same_key, test_at}

@@ -6,7 +6,7 @@ use Rattle.std.specs.Int.{w32, from_be_bytes}
 use Rattle.std.specs.Cmp.Lexicographic.{nat_list_cmp_total}
 use Rattle.std.proofs.lemmas.Bool.Decides.{nat_tests}
 use Rattle.raft_bytes.proofs.Numbers.{wide32}
-use Rattle.raft_kv.specs.declared.command.KvCommand.TheVariants.{Put}
+use Rattle.raft_wire.specs.declared.kv.KvCommand.TheVariants.{Put}
 use Rattle.raft_kv.specs.Map.{key_count_limit, in_order, spelled_map, IsWithin}
 use Rattle.raft_kv.specs.Machine.{answer_of, answer_to, is_full_for, kv}
 use Rattle.raft_kv.specs.Rows.{key_of, numbers_below, put_apple}

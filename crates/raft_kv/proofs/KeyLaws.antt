@@ -3,7 +3,7 @@ use Rattle.std.proofs.Common.{◌≡◌, ℕ, Bool, true, false, cond, List, Som
 use Rattle.std.specs.FinMap as finite
 use Rattle.std.specs.Ordering.{eq_by_cmp}
 use Rattle.std.specs.Cmp.Lexicographic.{nat_list_cmp_total}
-use Rattle.raft_kv.specs.declared.command.KvCommand.TheVariants.{Put}
+use Rattle.raft_wire.specs.declared.kv.KvCommand.TheVariants.{Put}
 use Rattle.raft_kv.specs.Map.{Map, in_order}
 use Rattle.raft_kv.specs.Machine.{after_command, is_full_for}
 use Rattle.raft_kv.proofs.Maps.{same_key}

@@ -6,8 +6,8 @@ use Rattle.std.specs.FinMap.Entries.{put}
 use Rattle.std.specs.Cmp.Lexicographic.{nat_list_cmp_total}
 use Rattle.std.proofs.lemmas.List.{nil_from_length}
 use Rattle.raft_wire.specs.Memberships.{spelled_list}
-use Rattle.raft_kv.specs.declared.command.KvCommand.TheVariants.{Put, Get, Drop}
-use Rattle.raft_kv.specs.Fields.{IsKey, IsValue}
+use Rattle.raft_wire.specs.declared.kv.KvCommand.TheVariants.{Put, Get, Drop}
+use Rattle.raft_wire.specs.Kv.{IsKey, IsValue}
 use Rattle.raft_kv.specs.Map.{key_count_limit, Map, in_order, spelled_map, spelled_pair, IsWithin}
 use Rattle.raft_kv.specs.Machine.{after_command, answer_of, is_full_for, kv}
 use Rattle.raft_kv.specs.Rows.{after_drop, after_get, after_put, drop_apple, get_apple, no_pairs, pair_a, pair_b, put_a, put_apple, put_b}

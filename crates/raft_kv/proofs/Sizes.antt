@@ -7,9 +7,9 @@ use Rattle.std.proofs.lemmas.List.Concat.{flat_map-cons}
 use Rattle.std.proofs.Math.Nat.{suc-mul}
 use Rattle.raft_wire.specs.Entries.{spelled_text}
 use Rattle.raft_wire.specs.Memberships.{Chained}
-use Rattle.raft_kv.specs.declared.command.KvCommand.{KvCommand}
-use Rattle.raft_kv.specs.declared.command.KvCommand.TheVariants.{Put, Get, Drop}
-use Rattle.raft_kv.specs.Command.{FitsCommand, spelled_command}
+use Rattle.raft_wire.specs.declared.kv.KvCommand.{KvCommand}
+use Rattle.raft_wire.specs.declared.kv.KvCommand.TheVariants.{Put, Get, Drop}
+use Rattle.raft_wire.specs.Kv.{FitsCommand, spelled_command}
 use Rattle.raft_kv.specs.Map.{Map, Pair, nothing_left, spelled_map, spelled_pair, IsWithin}
 use Rattle.raft_kv.proofs.Reading.{FitsPair}
 use Rattle.raft_kv.proofs.WithinMaps.{entries_fit}

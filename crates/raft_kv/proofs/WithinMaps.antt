@@ -14,13 +14,13 @@ use Rattle.raft_wire.specs.declared.error.FrameFault.{FrameFault}
 use Rattle.raft_wire.specs.Reader.{all_of}
 use Rattle.raft_wire.specs.Memberships.{Chained, spelled_list}
 use Rattle.raft_wire.proofs.Whole.{whole_again, whole_takes}
-use Rattle.raft_kv.specs.declared.command.KvCommand.{KvCommand}
-use Rattle.raft_kv.specs.declared.command.KvCommand.TheVariants.{Put, Get, Drop}
-use Rattle.raft_kv.specs.Fields.{IsKey, IsValue}
-use Rattle.raft_kv.specs.Command.{FitsCommand, command_at, spelled_command}
+use Rattle.raft_wire.specs.declared.kv.KvCommand.{KvCommand}
+use Rattle.raft_wire.specs.declared.kv.KvCommand.TheVariants.{Put, Get, Drop}
+use Rattle.raft_wire.specs.Kv.{IsKey, IsValue, FitsCommand, command_at, spelled_command}
+use Rattle.raft_wire.proofs.KvReading.{command_reads}
 use Rattle.raft_kv.specs.Map.{key_count_limit, Map, Pair, are_rising, in_order, is_map_read, map_in, map_read, nothing_left, pairs_at, restored, spelled_map, spelled_pair, IsWithin}
 use Rattle.raft_kv.specs.Machine.{after_command, answer_in, answer_to, is_full_for, state_after}
-use Rattle.raft_kv.proofs.Reading.{FitsPair, FitsPairs, command_reads, pairs_reads}
+use Rattle.raft_kv.proofs.Reading.{FitsPair, FitsPairs, pairs_reads}
 use Rattle.raft_kv.proofs.Maps.{from_rising, passes, same_key}
 
 -- ---- the entries of a map, and what its keys have

@@ -1,5 +1,3 @@
-pub mod Fields
-pub mod Command
 pub mod Map
 pub mod Pairs
 pub mod Machine

@@ -4,9 +4,9 @@ use Rattle.std.specs.FinMap as finite
 use Rattle.raft_machines.specs.Machine.{MachineRules}
 use Rattle.raft_wire.specs.declared.error.FrameFault.{FrameFault}
 use Rattle.raft_wire.specs.Reader.{all_of}
-use Rattle.raft_kv.specs.declared.command.KvCommand.{KvCommand}
-use Rattle.raft_kv.specs.declared.command.KvCommand.TheVariants.{Put, Get, Drop}
-use Rattle.raft_kv.specs.Command.{command_at}
+use Rattle.raft_wire.specs.declared.kv.KvCommand.{KvCommand}
+use Rattle.raft_wire.specs.declared.kv.KvCommand.TheVariants.{Put, Get, Drop}
+use Rattle.raft_wire.specs.Kv.{command_at}
 use Rattle.raft_kv.specs.Map.{Map, key_count_limit, spelled_map, map_in, restored}
 
 -- there is no place for a new key, and this one is new

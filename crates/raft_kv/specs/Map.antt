@@ -11,7 +11,7 @@ use Rattle.raft_wire.specs.declared.error.FrameFault.{FrameFault}
 use Rattle.raft_wire.specs.Reader.{Reader, both, counted_at, all_of}
 use Rattle.raft_wire.specs.Memberships.{spelled_list}
 use Rattle.raft_wire.specs.Entries.{spelled_text}
-use Rattle.raft_kv.specs.Fields.{IsKey, IsValue, key_at, value_at}
+use Rattle.raft_wire.specs.Kv.{IsKey, IsValue, key_at, value_at}
 
 -- keys are ordered byte by byte
 abbrev pub in_order : List ℕ → List ℕ → Ordering

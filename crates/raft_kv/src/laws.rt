@@ -2,9 +2,9 @@
 ghost use Rattle.std.specs.Prelude.{◌≡◌, ◌≢◌, ◌<◌, ◌≤◌, ℕ, false, List, [], ◌∷◌, length, Some, None};
 ghost use Rattle.std.specs.FinMap as finite;
 ghost use Rattle.raft_bytes.specs.Bytes.{AreBytes};
-ghost use Rattle.raft_kv.specs.declared.command.KvCommand.{KvCommand as KvCommandOf};
-ghost use Rattle.raft_kv.specs.declared.command.KvCommand.TheVariants.{Put, Get, Drop};
-ghost use Rattle.raft_kv.specs.Command.{FitsCommand, spelled_command};
+ghost use Rattle.raft_wire.specs.declared.kv.KvCommand.{KvCommand as KvCommandOf};
+ghost use Rattle.raft_wire.specs.declared.kv.KvCommand.TheVariants.{Put, Get, Drop};
+ghost use Rattle.raft_wire.specs.Kv.{FitsCommand, spelled_command};
 ghost use Rattle.raft_kv.specs.Machine.{after_command, answer_to, is_full_for, kv, state_of};
 ghost use Rattle.raft_kv.specs.Map.{IsWithin, Map, spelled_map};
 

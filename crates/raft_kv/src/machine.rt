@@ -2,16 +2,15 @@
 ghost use Rattle.std.specs.Prelude.{◌≡◌, ◌==◌, IfOk, OnErr, OnOk};
 ghost use Rattle.std.specs.Option.{option_map};
 ghost use Rattle.std.specs.FinMap as finite;
-ghost use Rattle.raft_kv.specs.declared.command.KvCommand.TheVariants.{Put, Drop};
-ghost use Rattle.raft_kv.specs.Fields.{IsKey, IsValue};
-ghost use Rattle.raft_kv.specs.Command.{FitsCommand};
+ghost use Rattle.raft_wire.specs.declared.kv.KvCommand.TheVariants.{Put, Drop};
+ghost use Rattle.raft_wire.specs.Kv.{IsKey, IsValue, FitsCommand};
 ghost use Rattle.raft_kv.specs.Map.{IsWithin};
 ghost use Rattle.raft_kv.specs.Machine.{after_command, answer_of, answer_to, is_full_for};
 ghost use Rattle.raft_kv.specs.Machine.{kv, state_of};
 ghost use Rattle.raft_kv.specs.Restoring.{first_again, state_again};
 
-use crate::command::{KvCommand, read_kv};
 use crate::pairs::{MAX_KEYS, Pairs, pairs_bytes, pairs_in};
+use crate::{KvCommand, read_kv};
 use raft_machines::StateMachine;
 use raft_state::Bytes;
 use raft_wire::FrameError;

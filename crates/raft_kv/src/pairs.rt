@@ -1,14 +1,12 @@
 //! The machine's pairs of a key and its value, and their bytes.
 ghost use Rattle.std.specs.Prelude.{◌≡◌, map, None, IfOk};
-ghost use Rattle.raft_wire.specs.Reader.{Gives, all_of, many_at};
-ghost use Rattle.raft_kv.specs.Fields.{filled_at};
+ghost use Rattle.raft_wire.specs.Reader.{Gives, all_of, many_at, filled_at};
 ghost use Rattle.raft_kv.specs.Map.{IsTreeWithin, map_of, restored, spelled_map};
 ghost use Rattle.raft_kv.specs.Map.{nothing_left, pair_at, pairs_at};
 ghost use Rattle.raft_kv.specs.Pairs.{IsTreeOf, is_before, plain_pair};
 
-use crate::command::{MAX_KEY_BYTES, MAX_VALUE_BYTES};
-use crate::fields::{count_of, filled_of, put_count, put_text};
-use raft_wire::{FrameError, FrameFault};
+use crate::{MAX_KEY_BYTES, MAX_VALUE_BYTES};
+use raft_wire::{FrameError, FrameFault, count_of, filled_of, put_count, put_text};
 use std::alloc::{AllocError, Global};
 use std::collections::BTreeMap;
 

@@ -3,8 +3,8 @@ ghost use Rattle.std.specs.Prelude.{◌≡◌, ℕ, List, [], ◌∷◌, ◌++�
 ghost use Rattle.std.specs.FinMap as finite;
 ghost use Rattle.raft_wire.specs.declared.error.FrameFault.TheVariants as fault;
 ghost use Rattle.raft_wire.specs.Reader.{all_of};
-ghost use Rattle.raft_kv.specs.declared.command.KvCommand.TheVariants.{Put, Get, Drop};
-ghost use Rattle.raft_kv.specs.Command.{command_at, fault_of_command};
+ghost use Rattle.raft_wire.specs.declared.kv.KvCommand.TheVariants.{Put, Get, Drop};
+ghost use Rattle.raft_wire.specs.Kv.{command_at, fault_of_command};
 ghost use Rattle.raft_kv.specs.Machine.{answer_to, kv};
 ghost use Rattle.raft_kv.specs.Map.{IsWithin, spelled_map};
 ghost use Rattle.raft_kv.specs.Rows.{after_drop, after_get, after_put, behind, drop_apple};
@@ -50,7 +50,7 @@ pub fn faults_of_commands()
 {}
 
 /// Bytes that are no command, in any state.
-#[tactic(auto, unfolding(crate::specs::Command::command_at, raft_wire::specs::Reader::all_of))]
+#[tactic(auto, unfolding(raft_wire::specs::Kv::command_at, raft_wire::specs::Reader::all_of))]
 pub fn unknown_commands()
     ensures step { (state : List ℕ) → kv.step state 0 (9 ∷ codes "apple") ≡ state }
     ensures answer { (state : List ℕ) → kv.answer state 0 (9 ∷ codes "apple") ≡ [] }

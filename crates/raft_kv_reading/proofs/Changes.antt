@@ -9,8 +9,8 @@ use Rattle.std.specs.Cmp.Lexicographic.{nat_list_cmp_total}
 use Rattle.std.proofs.lemmas.List.Elements.{filter_map-append}
 use Rattle.std.proofs.lemmas.Map.Text.{is_eq-slice_cmp}
 use Rattle.raft_group_step.specs.Values.{Entry}
-use Rattle.raft_kv.specs.declared.command.KvCommand.{KvCommand}
-use Rattle.raft_kv.specs.declared.command.KvCommand.TheVariants.{Put, Get, Drop}
+use Rattle.raft_wire.specs.declared.kv.KvCommand.{KvCommand}
+use Rattle.raft_wire.specs.declared.kv.KvCommand.TheVariants.{Put, Get, Drop}
 use Rattle.raft_kv.specs.Map.{Map, in_order}
 use Rattle.raft_kv.specs.Machine.{after_command, answer_of, answer_to, is_full_for}
 use Rattle.raft_kv_reading.specs.Values.{Change, Gives, Takes, Key, Value, change_by, change_on, changes_before, command_on, value_before, value_left}

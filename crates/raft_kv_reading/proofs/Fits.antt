@@ -5,11 +5,10 @@ use Rattle.std.specs.Int.{w32}
 use Rattle.std.proofs.lemmas.Bool.Decides.{nat_tests}
 use Rattle.raft_bytes.proofs.Bytes.{bind_ok, ok_is}
 use Rattle.raft_wire.specs.declared.error.FrameFault.TheVariants as fault
-use Rattle.raft_wire.specs.Reader.{◌>>=◌, all_of, both, count_at, number_at, piece_at, text_at}
-use Rattle.raft_kv.specs.declared.command.KvCommand.{KvCommand}
-use Rattle.raft_kv.specs.Fields.{IsFilled, filled_at, has_bytes, key_at, value_at}
-use Rattle.raft_kv.specs.Command.{FitsCommand, command_at, drop_of, get_of, put_of}
-use Rattle.raft_kv.proofs.Reading.{some_bytes}
+use Rattle.raft_wire.specs.Reader.{◌>>=◌, all_of, both, count_at, number_at, piece_at, text_at, filled_at, has_bytes}
+use Rattle.raft_wire.specs.declared.kv.KvCommand.{KvCommand}
+use Rattle.raft_wire.specs.Kv.{IsFilled, key_at, value_at, FitsCommand, command_at, drop_of, get_of, put_of}
+use Rattle.raft_wire.proofs.KvReading.{some_bytes}
 
 piece_length : (n : ℕ) (bytes : List ℕ) (x : List ℕ × List ℕ) → piece_at n bytes ≡ Ok x → length x.0 ≡ n
 unfolding piece_at

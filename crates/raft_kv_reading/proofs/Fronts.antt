@@ -12,9 +12,9 @@ use Rattle.raft_machines.specs.Fold.{answer_in as answer_to_entry}
 use Rattle.raft_machines.proofs.FoldLemmas.{fold_of-append}
 use Rattle.raft_wire.specs.declared.error.FrameFault.{FrameFault}
 use Rattle.raft_wire.specs.Reader.{all_of}
-use Rattle.raft_kv.specs.declared.command.KvCommand.{KvCommand}
-use Rattle.raft_kv.specs.declared.command.KvCommand.TheVariants.{Put, Get, Drop}
-use Rattle.raft_kv.specs.Command.{FitsCommand, command_at}
+use Rattle.raft_wire.specs.declared.kv.KvCommand.{KvCommand}
+use Rattle.raft_wire.specs.declared.kv.KvCommand.TheVariants.{Put, Get, Drop}
+use Rattle.raft_wire.specs.Kv.{FitsCommand, command_at}
 use Rattle.raft_kv.specs.Map.{Map, in_order, map_in, spelled_map, IsWithin}
 use Rattle.raft_kv.specs.Machine.{after_command, answer_in, answer_to, is_full_for, kv, state_after}
 use Rattle.raft_kv.proofs.WithinMaps.{command_within, empty_within, map_again}

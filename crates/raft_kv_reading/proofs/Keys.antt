@@ -11,8 +11,8 @@ use Rattle.std.proofs.lemmas.Bool.Decides.{nat_tests}
 use Rattle.std.proofs.lemmas.List.{length-map}
 use Rattle.std.proofs.lemmas.Map.Text.{is_eq-slice_cmp}
 use Rattle.raft_group_step.specs.Values.{Entry}
-use Rattle.raft_kv.specs.declared.command.KvCommand.{KvCommand}
-use Rattle.raft_kv.specs.declared.command.KvCommand.TheVariants.{Put, Get, Drop}
+use Rattle.raft_wire.specs.declared.kv.KvCommand.{KvCommand}
+use Rattle.raft_wire.specs.declared.kv.KvCommand.TheVariants.{Put, Get, Drop}
 use Rattle.raft_kv.specs.Map.{Map, Pair, in_order}
 use Rattle.raft_kv.specs.Machine.{is_full_for}
 use Rattle.raft_kv.proofs.WithinMaps.{first_of, second_of}

@@ -9,9 +9,8 @@ use Rattle.raft_group_step.specs.Values.{Entry}
 use Rattle.raft_laws.proofs.BallotAgreement.{slice_get_end}
 use Rattle.raft_machines.specs.Fold.{answer_at, answer_in, fold_of}
 use Rattle.raft_machines.proofs.FoldLemmas.{fold_of-append}
-use Rattle.raft_kv.specs.declared.command.KvCommand.TheVariants.{Put, Get, Drop}
-use Rattle.raft_kv.specs.Command.{FitsCommand, spelled_command}
-use Rattle.raft_kv.specs.Fields.{IsKey, IsValue}
+use Rattle.raft_wire.specs.declared.kv.KvCommand.TheVariants.{Put, Get, Drop}
+use Rattle.raft_wire.specs.Kv.{FitsCommand, spelled_command, IsKey, IsValue}
 use Rattle.raft_kv.specs.Map.{spelled_map}
 use Rattle.raft_kv.specs.Machine.{answer_of, is_full_for, kv}
 use Rattle.raft_kv.specs.Rows.{key_of, numbers_below, put_apple}

@@ -9,12 +9,12 @@ use Rattle.raft_state.specs.declared.entry.EntryPayload.TheVariants.{Normal}
 use Rattle.raft_group_step.specs.Values.{Entry}
 use Rattle.raft_machines.specs.Fold.{answer_at, fold_of}
 use Rattle.raft_wire.proofs.Whole.{whole_again}
-use Rattle.raft_kv.specs.declared.command.KvCommand.{KvCommand}
-use Rattle.raft_kv.specs.declared.command.KvCommand.TheVariants.{Put, Get, Drop}
-use Rattle.raft_kv.specs.Command.{FitsCommand, command_at, spelled_command}
+use Rattle.raft_wire.specs.declared.kv.KvCommand.{KvCommand}
+use Rattle.raft_wire.specs.declared.kv.KvCommand.TheVariants.{Put, Get, Drop}
+use Rattle.raft_wire.specs.Kv.{FitsCommand, command_at, spelled_command}
+use Rattle.raft_wire.proofs.KvReading.{command_reads}
 use Rattle.raft_kv.specs.Machine.{answer_of, is_full_for, kv, state_of}
 use Rattle.raft_kv.specs.Map.{Map, IsWithin}
-use Rattle.raft_kv.proofs.Reading.{command_reads}
 use Rattle.raft_kv.proofs.Maps.{same_key}
 use Rattle.raft_kv.proofs.WithinMaps.{itself, one_map, restored_again}
 use Rattle.raft_kv_reading.specs.Values.{Change, Gives, Takes, Key, Value, change_by, change_on, command_in, command_on, is_refused, value_before, value_left}

@@ -9,9 +9,9 @@ use Rattle.raft_headline.specs.Machines.{Replicas, new_replicas}
 use Rattle.raft_headline.specs.Replaying.{ReplaysFor}
 use Rattle.raft_headline.specs.Told.{IsAskedFor, IsToldRightly}
 use Rattle.raft_headline.proofs.Tells.{told_stand}
-use Rattle.raft_kv.specs.declared.command.KvCommand.{KvCommand}
-use Rattle.raft_kv.specs.declared.command.KvCommand.TheVariants.{Get}
-use Rattle.raft_kv.specs.Command.{FitsCommand}
+use Rattle.raft_wire.specs.declared.kv.KvCommand.{KvCommand}
+use Rattle.raft_wire.specs.declared.kv.KvCommand.TheVariants.{Get}
+use Rattle.raft_wire.specs.Kv.{FitsCommand}
 use Rattle.raft_kv.specs.Machine.{kv}
 use Rattle.raft_kv_reading.specs.Values.{command_on}
 use Rattle.raft_kv_reading.specs.Answers.{TellsValue}

@@ -4,7 +4,7 @@ use Rattle.std.specs.Prelude.{List, [], ◌∷◌, length, bytes_eq, Option, Som
 use Rattle.std.specs.Prelude.{if◌then◌else◌}
 use Rattle.std.specs.List.{IsDistinct, list_any}
 use Rattle.raft_group_step.specs.Values.{Entry}
-use Rattle.raft_kv.specs.declared.command.KvCommand.TheVariants.{Put, Get, Drop}
+use Rattle.raft_wire.specs.declared.kv.KvCommand.TheVariants.{Put, Get, Drop}
 use Rattle.raft_kv.specs.Machine.{answer_of}
 use Rattle.raft_kv_reading.specs.Values.{Change, Gives, Takes, Key, Value, change_on, command_on}
 use Rattle.raft_kv_reading.specs.Values.{is_refused, value_before}

@@ -3,8 +3,8 @@ use Rattle.std.specs.Prelude.{ℕ, zero, suc, List, [], ◌∷◌, ◌++◌, cod
 use Rattle.raft_values.specs.LogId.{log_id_of}
 use Rattle.raft_state.specs.declared.entry.EntryPayload.TheVariants.{Blank, Normal}
 use Rattle.raft_group_step.specs.Values.{Entry, EntryPayload}
-use Rattle.raft_kv.specs.declared.command.KvCommand.TheVariants.{Put}
-use Rattle.raft_kv.specs.Command.{spelled_command}
+use Rattle.raft_wire.specs.declared.kv.KvCommand.TheVariants.{Put}
+use Rattle.raft_wire.specs.Kv.{spelled_command}
 use Rattle.raft_kv.specs.Rows.{behind, drop_apple, get_apple, key_of, put_apple, put_b}
 use Rattle.raft_kv_reading.specs.Values.{Key}
 

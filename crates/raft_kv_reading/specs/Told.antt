@@ -10,10 +10,9 @@ use Rattle.raft_headline.specs.ClusterEvent.{Ask, Recorded}
 use Rattle.raft_headline.specs.Machines.{Replicas, new_replicas}
 use Rattle.raft_headline.specs.Replaying.{ReplaysFor}
 use Rattle.raft_headline.specs.Told.{said_by}
-use Rattle.raft_kv.specs.declared.command.KvCommand.{KvCommand}
-use Rattle.raft_kv.specs.declared.command.KvCommand.TheVariants.{Get}
-use Rattle.raft_kv.specs.Command.{spelled_command, FitsCommand}
-use Rattle.raft_kv.specs.Fields.{IsKey}
+use Rattle.raft_wire.specs.declared.kv.KvCommand.{KvCommand}
+use Rattle.raft_wire.specs.declared.kv.KvCommand.TheVariants.{Get}
+use Rattle.raft_wire.specs.Kv.{spelled_command, FitsCommand, IsKey}
 use Rattle.raft_kv.specs.Machine.{answer_of, kv}
 use Rattle.raft_kv_reading.specs.Values.{Key, command_on, value_before}
 use Rattle.raft_kv_reading.specs.Answers.{TellsValue}

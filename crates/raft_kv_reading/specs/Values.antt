@@ -9,9 +9,9 @@ use Rattle.raft_state.specs.declared.entry.EntryPayload.TheVariants.{Membership 
 use Rattle.raft_group_step.specs.Values.{Entry, EntryPayload}
 use Rattle.raft_machines.specs.Fold.{answer_at}
 use Rattle.raft_wire.specs.Reader.{all_of}
-use Rattle.raft_kv.specs.declared.command.KvCommand.{KvCommand}
-use Rattle.raft_kv.specs.declared.command.KvCommand.TheVariants.{Put, Get, Drop}
-use Rattle.raft_kv.specs.Command.{command_at}
+use Rattle.raft_wire.specs.declared.kv.KvCommand.{KvCommand}
+use Rattle.raft_wire.specs.declared.kv.KvCommand.TheVariants.{Put, Get, Drop}
+use Rattle.raft_wire.specs.Kv.{command_at}
 use Rattle.raft_kv.specs.Machine.{kv}
 
 abbrev pub Key : Type 0

@@ -2,8 +2,8 @@
 ghost use Rattle.std.specs.Prelude.{◌≡◌, ℕ, List, Some, take, option_map};
 ghost use Rattle.raft_group_step.specs.Values.{Entry};
 ghost use Rattle.raft_machines.specs.Fold.{answer_at, fold_of};
+ghost use Rattle.raft_wire.specs.declared.kv.KvCommand.TheVariants.{Get};
 ghost use Rattle.raft_kv.specs.Machine.{kv, state_of};
-ghost use Rattle.raft_kv.specs.declared.command.KvCommand.TheVariants.{Get};
 ghost use Rattle.raft_kv_reading.specs.Answers.{value_in};
 ghost use Rattle.raft_kv_reading.specs.Values.{Key, command_on, is_refused, value_before};
 

@@ -41,7 +41,7 @@ pub bounded_by_none : (o kept : Option ℕ) → o ≡ None → IsBounded o kept
 bounded_by_none None kept e = tt
 bounded_by_none (Some file) kept e = absurd cc
 
-first_bounds : (first : ℕ) (names : Names) (kept : Option ℕ) → IsFirstOf first names kept → ((c : Cell) → IsFrom first (names c)) → (c : Cell) → IsBounded (names c) kept
+pub first_bounds : (first : ℕ) (names : Names) (kept : Option ℕ) → IsFirstOf first names kept → ((c : Cell) → IsFrom first (names c)) → (c : Cell) → IsBounded (names c) kept
 first_bounds first names kept o late c = ⊎_elim
     (λ e. subst (λ (n : Option ℕ). IsBounded (names c) n) (sym e) (bounded_by_first first (names c) (late c)))
     (λ none. bounded_by_none (names c) kept (none c))
@@ -389,7 +389,7 @@ module _ {E : Type 0} where
       by_place : (l : Bool) → nat_lt i u.low ≡ l → (n : Bool) → nat_lt i u.next ≡ n → IsBounded (names (index i)) (cond l u.since (cond n (u.entry_file i) u.tail))
       by_place true h n k = first_bounds first names u.since o.since late (index i)
       by_place false h true k = entry_bounded (g.entry i) (names (index i)) (u.entry_file i) (o.files.entries_named i) (o.holes i (ltb-false i u.low h) (ltb-true i u.next k))
-      by_place false h false k = first_bounds first names u.tail o.tail late (index i)
+      by_place false h false k = o.tail i (ltb-false i u.low h) (ltb-false i u.next k)
   opened_bounds first t u older g names late o (key k) = by_value (is_some (g.value k)) refl
     where
       by_value : (b : Bool) → is_some (g.value k) ≡ b → IsBounded (names (key k)) (cond b (u.key_file k) u.since)

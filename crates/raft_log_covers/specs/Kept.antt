@@ -149,8 +149,8 @@ IsFirstOf first names kept = (kept ≡ Some first) ⊎ ((c : Cell) → names c �
 
 -- What the trace of a group has to say after the replay, where t is what the batches made of a new one. Its ends are those of the
 -- entries that are there, and no entry of the rewrite queue lies past its top unless the group was cleaned. They and the keys that
--- are there stand in the files that the account names; at a hole the file isn't after that one. For all else there is the first
--- append file, if the account names any.
+-- are there stand in the files that the account names; at a hole, and past the entries, the file isn't after that one. For all else
+-- there is the first append file, if the account names any.
 pub record IsReplayed {E : Type 0} (first : ℕ) (t opened : Trace) (older g : GroupContent E) (names : Names) : Type 0 where
   pub below : (i : ℕ) → i < opened.low → g.entry i ≡ None
   pub above : (i : ℕ) → opened.low ≤ i → opened.next ≤ i → g.entry i ≡ None
@@ -158,7 +158,7 @@ pub record IsReplayed {E : Type 0} (first : ℕ) (t opened : Trace) (older g : G
   pub empty_top : opened.next ≤ opened.low → opened.top ≤ opened.low
   pub past : opened.cleaned ≡ false → (i : ℕ) → opened.top ≤ i → older.entry i ≡ None
   pub since : IsFirstOf first names opened.since
-  pub tail : IsFirstOf first names opened.tail
+  pub tail : (i : ℕ) → opened.low ≤ i → opened.next ≤ i → IsBounded (names (index i)) opened.tail
   pub files : TellsFiles opened g names
   pub holes : (i : ℕ) → opened.low ≤ i → i < opened.next → g.entry i ≡ None → IsBounded (names (index i)) (opened.entry_file i)
   pub cleaned : opened.cleaned ≡ t.cleaned

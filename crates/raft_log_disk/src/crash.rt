@@ -5,6 +5,7 @@ ghost use Rattle.std.specs.String.{string_bytes};
 
 use crate::FileSystem;
 use std::alloc::AllocError;
+use thiserror::Error;
 
 /// The bytes that a crash leaves of one file.
 #[derive(Drop)]
@@ -25,12 +26,15 @@ pub enum CrashChoice {
 }
 
 /// Why files do not crash so.
-#[derive(Clone, Copy, Debug, PartialEq, Eq)]
+#[derive(Clone, Copy, Debug, PartialEq, Eq, Error)]
 pub enum CrashRefusal {
     /// A crash may not leave these bytes.
+    #[error("no crash leaves such files")]
     NotAnImage,
     /// A log file would show a header or a record that no call wrote there.
+    #[error("the files would show by chance what nobody wrote")]
     ByChance,
+    #[error("out of memory")]
     Memory,
 }
 

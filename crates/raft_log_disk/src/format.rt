@@ -7,6 +7,7 @@ ghost use Rattle.raft_log_disk.specs.Format.{magic, versioned, header_len};
 
 use raft_log_records::Version;
 use std::alloc::{AllocError, Global};
+use thiserror::Error;
 
 /// The text at the front of each log file.
 const MAGIC: &[u8; 53] = b"RAFT-LOG-FILE-HEADER-9986AB3E47F320B394C8E84916EB0ED5";
@@ -21,13 +22,16 @@ pub struct LogFileFormat {
 }
 
 /// Why bytes have no header at their front.
-#[derive(Clone, Copy, Debug, PartialEq, Eq)]
+#[derive(Clone, Copy, Debug, PartialEq, Eq, Error)]
 pub enum HeaderFault {
     /// The bytes end before the header does.
+    #[error("the bytes end before the header does")]
     CutShort,
     /// The text at the front is another one.
+    #[error("the text at the front is another one")]
     NoHeader,
     /// The version is neither 1 nor 2.
+    #[error("the version is neither 1 nor 2")]
     BadVersion,
 }
 

@@ -193,6 +193,13 @@ impl MemoryLog {
         }
     }
 
+    /// The engine, lent for reading (own): the span and the bytes of its queues, and its groups.
+    pub fn engine(&self) -> &Engine<MemoryFileSystem>
+        ensures { result.now ≡ self.now.engine }
+    {
+        &self.engine
+    }
+
     /// The files, lent for reading (own).
     pub fn files(&self) -> &MemoryFileSystem
         ensures { result.now ≡ self.now.engine.files }

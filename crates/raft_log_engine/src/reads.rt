@@ -140,6 +140,14 @@ impl<F: FileSystem + Drop> Engine<F> {
         appends.saturating_add(self.pipes.total_size(LogQueue::Rewrite))
     }
 
+    /// The bytes of all files of a queue, each taken as long as the target size (own: raft-engine's
+    /// `get_used_size` for one queue).
+    pub fn total_size(&self, queue: LogQueue) -> u64
+        ensures { result ≡ used_by self.now.pipes queue }
+    {
+        self.pipes.total_size(queue)
+    }
+
     /// How many blocks were read from files for entries, since the engine was opened (own). The count
     /// stays at 2^64 - 1.
     pub fn block_reads(&self) -> u64

@@ -1,5 +1,5 @@
 -- The traces that an opening makes are what the laws ask.
-use Rattle.std.proofs.Common.{◌≡◌, ◌≤◌, ◌<◌, ◌-◌, ℕ, Bool, true, false, List, Option, Some, None, refl, sym, ap, subst, ◌∙◌, arith, le_refl, ltb-true, ltb-false, ◌⊎◌, inl, inr, ⊎_elim, ◌++◌}
+use Rattle.std.proofs.Common.{◌≡◌, ◌≤◌, ◌<◌, ◌-◌, ℕ, Bool, true, false, cond, List, Option, Some, None, refl, sym, ap, subst, ◌∙◌, arith, le_refl, ltb-true, ltb-false, ◌⊎◌, inl, inr, ⊎_elim, ◌++◌}
 use Rattle.std.specs.Prelude.{IsSome, nat_lt}
 use Rattle.raft_log_records.specs.Item.{Item}
 use Rattle.raft_log_memtables.specs.Content.{GroupContent}
@@ -13,10 +13,10 @@ use Rattle.raft_log_covers.specs.Placed.{AreFiled}
 use Rattle.raft_log_covers.specs.Queues.{Filed, FilesRise, batches_of}
 use Rattle.raft_log_covers.specs.Trace.{Trace, IsBounded}
 use Rattle.raft_log_covers.proofs.FileLemmas.{not_there}
-use Rattle.raft_log_covers.proofs.KeptLemmas.{is_there_is, names_late}
+use Rattle.raft_log_covers.proofs.KeptLemmas.{first_bounds, is_there_is, names_late}
 use Rattle.raft_log_covers.proofs.PlacedLemmas.{places_tell_files, traces_tell_keys}
 use Rattle.raft_log_traces.specs.Files.{KeepsFrom}
-use Rattle.raft_log_marks.specs.Opened.{AreEnds, AreFilesOf, IsMadeOf, IsSince, OpenedQueuesCanBeCleaned, OpenedQueuesTellPlaces, TellPlaces, file_at, past_of, reach_of_records}
+use Rattle.raft_log_marks.specs.Opened.{AreEnds, AreFilesOf, IsMadeOf, IsSince, OpenedQueuesCanBeCleaned, OpenedQueuesTellPlaces, TellPlaces, file_at, past_of, reach_of_records, tail_of}
 use Rattle.raft_log_marks.specs.Whole.{HasLast}
 use Rattle.raft_log_marks.proofs.FoundLemmas.{Found, replay_found}
 use Rattle.raft_log_marks.proofs.OpenedLemmas.{replays_are_cleanable}
@@ -100,7 +100,36 @@ module _ {E : Type 0} (at : E → Option ℕ) (first file : ℕ) (t u : Trace) (
         let lies_there : IsSome (file_at at (g.entry some.0)) = subst (λ (o : Option ℕ). IsSome o) (lies some.0 e.0 e.1 ∙ ap (file_at at) (sym e.1)) some.3 in
         not_there (u.entry_file i) q (files.some i some.0 some.1 lies_there)
 
-    there_replayed : IsFirstOf first names u.since → IsFirstOf first names u.tail → IsReplayed first t u older g names
+    -- by the file of the last entry: none below it is named where that isn't, and none behind it has an earlier file
+    behind_last : (e : E) → g.entry (u.next - 1) ≡ Some e → (o : Option ℕ) → at e ≡ o → (i : ℕ) → u.next ≤ i → (p : Option ℕ) → names (index i) ≡ p → IsBounded p o
+    behind_last e is o a i high None n = tt
+    behind_last e is (Some h) a i high (Some f) n =
+        let next = k.rises (u.next - 1) i h (omega (arith, high)) (is_there_is (g.entry (u.next - 1)) e is) (lies (u.next - 1) e is ∙ a) in
+        let same : next.0 ≡ f = (let b = next.1 in cc) in
+        let l = next.2 in
+        omega (arith, same, l)
+    behind_last e is None a i high (Some f) n =
+        let some = k.below i (is_there_is (names (index i)) f n) (u.next - 1) (omega (arith, high)) (is_there_is (g.entry (u.next - 1)) e is) in
+        let named = there_is (names (index some.0)) some.3 in
+        by_place some.0 (nat_lt some.0 u.next) refl some.2 named.0 named.1
+      where
+        by_place : (j : ℕ) (b : Bool) → nat_lt j u.next ≡ b → IsSome (g.entry j) → (h : ℕ) → names (index j) ≡ Some h → ⊥
+        by_place j true l s h named =
+            let low = ltb-true j u.next l in
+            let next = k.rises j (u.next - 1) h (omega (arith, low)) s named in
+            none_of (names (index (u.next - 1))) next.0 (lies (u.next - 1) e is ∙ a) next.1
+        by_place j false l s h named = not_there (g.entry j) (ends.above j (ltb-false j u.next l)) s
+
+    tail_so : IsFirstOf first names u.since → u.tail ≡ tail_of at g u → (i : ℕ) → u.low ≤ i → u.next ≤ i → IsBounded (names (index i)) u.tail
+    tail_so since is i low high = subst (λ (o : Option ℕ). IsBounded (names (index i)) o) (sym is) (by_entries (nat_lt u.low u.next) refl)
+      where
+        by_entries : (b : Bool) → nat_lt u.low u.next ≡ b → IsBounded (names (index i)) (cond b (file_at at (g.entry (u.next - 1))) u.since)
+        by_entries true full =
+            let e = there_is (g.entry (u.next - 1)) (ends.last (ltb-true u.low u.next full)) in
+            subst (λ (o : Option ℕ). IsBounded (names (index i)) o) (ap (file_at at) (sym e.1)) (behind_last e.0 e.1 (at e.0) refl i high (names (index i)) refl)
+        by_entries false empty = first_bounds first names u.since since late (index i)
+
+    there_replayed : IsFirstOf first names u.since → u.tail ≡ tail_of at g u → IsReplayed first t u older g names
     there_replayed since tail = record {
       below = ends.below;
       above = λ i l h. ends.above i h;
@@ -108,7 +137,7 @@ module _ {E : Type 0} (at : E → Option ℕ) (first file : ℕ) (t u : Trace) (
       empty_top = λ h. let same = (ends.empty h).0 in omega (arith, same);
       past = λ c i h. k.past (sym m.cleaned ∙ c) i (subst (λ (n : ℕ). n ≤ i) ends.top_is h);
       since = since;
-      tail = tail;
+      tail = tail_so since tail;
       files = record { entries_named = entries_named; keys_named = keys_named };
       holes = λ i low high none. holes_so i low high (names (index i)) refl (u.entry_file i) refl;
       cleaned = m.cleaned;
@@ -124,7 +153,7 @@ module _ {E : Type 0} (at : E → Option ℕ) (first file : ℕ) (t u : Trace) (
   -- ---- where it isn't
 
   module _ (gone : g.there ≡ false) (low : u.low ≡ 0) (next : u.next ≡ 0) (top : u.top ≡ 0) where
-    gone_replayed : IsFirstOf first names u.since → IsFirstOf first names u.tail → IsReplayed first t u older g names
+    gone_replayed : IsFirstOf first names u.since → u.tail ≡ u.since → IsReplayed first t u older g names
     gone_replayed since tail = record {
       below = λ i h. k.none gone i;
       above = λ i l h. k.none gone i;
@@ -132,20 +161,31 @@ module _ {E : Type 0} (at : E → Option ℕ) (first file : ℕ) (t u : Trace) (
       empty_top = λ h. omega (arith, low, top);
       past = λ c i h. k.gone (sym m.cleaned ∙ c) gone i;
       since = since;
-      tail = tail;
+      tail = λ i low high. subst (λ (o : Option ℕ). IsBounded (names (index i)) o) (sym tail) (first_bounds first names u.since since late (index i));
       files = record { entries_named = λ i s. not_there (g.entry i) (k.none gone i) s; keys_named = keys_named };
       holes = λ i l h. absurd (nothing_below (subst (λ (n : ℕ). i < n) next h));
       cleaned = m.cleaned;
       deleted = m.deleted;
     }
 
-  since_file : IsSince first t u → ((u.since ≡ Some first) ⊎ (t.since ≡ None)) × ((u.tail ≡ Some first) ⊎ (t.since ≡ None))
-  since_file (inl e) = (inl e.0, inl e.1)
-  since_file (inr e) = (inr e.0, inr e.0)
+  since_file : IsSince first t u → (u.since ≡ Some first) ⊎ (t.since ≡ None)
+  since_file (inl e) = inl e
+  since_file (inr e) = inr e.0
 
-  since_from : IsSince first t u → IsFrom first u.since × IsFrom first u.tail
-  since_from (inl e) = (subst (λ (o : Option ℕ). IsFrom first o) (sym e.0) (le_refl first), subst (λ (o : Option ℕ). IsFrom first o) (sym e.1) (le_refl first))
-  since_from (inr e) = (subst (λ (o : Option ℕ). IsFrom first o) (sym e.1) tt, subst (λ (o : Option ℕ). IsFrom first o) (sym e.2) tt)
+  since_from : IsSince first t u → IsFrom first u.since
+  since_from (inl e) = subst (λ (o : Option ℕ). IsFrom first o) (sym e) (le_refl first)
+  since_from (inr e) = subst (λ (o : Option ℕ). IsFrom first o) (sym e.1) tt
+
+  file_from : (j : ℕ) (o : Option ℕ) → file_at at (g.entry j) ≡ o → IsFrom first o
+  file_from j None e = tt
+  file_from j (Some f) e = subst (λ (o : Option ℕ). IsFrom first o) (named_in j f e).1 (late (index j))
+
+  tail_from : u.tail ≡ tail_of at g u → IsFrom first u.tail
+  tail_from is = subst (λ (o : Option ℕ). IsFrom first o) (sym is) (by_entries (nat_lt u.low u.next))
+    where
+      by_entries : (b : Bool) → IsFrom first (cond b (file_at at (g.entry (u.next - 1))) u.since)
+      by_entries true = file_from (u.next - 1) (file_at at (g.entry (u.next - 1))) refl
+      by_entries false = since_from m.since
 
   keys_from : (q : List ℕ) → IsFrom first (u.key_file q)
   keys_from q = subst (λ (o : Option ℕ). IsFrom first o) (sym (m.key_file q)) (k.keys q)
@@ -153,8 +193,8 @@ module _ {E : Type 0} (at : E → Option ℕ) (first file : ℕ) (t u : Trace) (
   made : IsReplayed first t u older g names × KeepsFrom first u × HasLast u g
   made = ⊎_elim
       (λ here. (
-        there_replayed here.1 here.2 (since_of u.since (since_file m.since).0) (since_of u.tail (since_file m.since).1),
-        record { since = (since_from m.since).0; tail = (since_from m.since).1; entries = λ i low high. entry_from here.1 here.2 i (u.entry_file i) refl; keys = keys_from },
+        there_replayed here.1 here.2 (since_of u.since (since_file m.since)) here.3,
+        record { since = since_from m.since; tail = tail_from here.3; entries = λ i low high. entry_from here.1 here.2 i (u.entry_file i) refl; keys = keys_from },
         here.1.last,
       ))
       (λ out.
@@ -162,8 +202,8 @@ module _ {E : Type 0} (at : E → Option ℕ) (first file : ℕ) (t u : Trace) (
       let low : u.low ≡ 0 = out.1 ∙ zero.0 in
       let next : u.next ≡ 0 = out.2 ∙ zero.1 in
       let top : u.top ≡ 0 = out.3 ∙ zero.2 in (
-        gone_replayed out.0 low next top (since_of u.since (since_file m.since).0) (since_of u.tail (since_file m.since).1),
-        record { since = (since_from m.since).0; tail = (since_from m.since).1; entries = λ i l h. absurd (nothing_below (subst (λ (n : ℕ). i < n) next h)); keys = keys_from },
+        gone_replayed out.0 low next top (since_of u.since (since_file m.since)) out.4,
+        record { since = since_from m.since; tail = subst (λ (o : Option ℕ). IsFrom first o) (sym out.4) (since_from m.since); entries = λ i l h. absurd (nothing_below (subst (λ (n : ℕ). i < n) next h)); keys = keys_from },
         λ h. absurd (nothing_below (subst (λ (n : ℕ). u.low < n) next h)),
       ))
       m.ends

@@ -1,5 +1,5 @@
 -- Queues that are opened can be cleaned.
-use Rattle.std.specs.Prelude.{◌≡◌, ◌⊎◌, ◌≤◌, ◌<◌, ◌+◌, ◌-◌, ℕ, Bool, true, false, if◌then◌else◌, Option, Some, None, IsSome, List, ◌++◌}
+use Rattle.std.specs.Prelude.{◌≡◌, ◌⊎◌, ◌≤◌, ◌<◌, ◌+◌, ◌-◌, ℕ, Bool, true, false, if◌then◌else◌, nat_lt, Option, Some, None, IsSome, List, ◌++◌}
 use Rattle.raft_log_records.specs.Item.{Item}
 use Rattle.raft_log_memtables.specs.Content.{GroupContent, Content, reach_after_batch}
 use Rattle.raft_log_memtables.specs.Replay.{after_records, content_of}
@@ -65,15 +65,24 @@ pub record AreFilesOf {E : Type 0} (at : E → Option ℕ) (g : GroupContent E) 
   pub some : (i j : ℕ) → j ≤ i → IsSome (file_at at (g.entry j)) → IsSome (file i)
   pub told : (i f : ℕ) → file i ≡ Some f → (j : ℕ) × (j ≤ i) × (file_at at (g.entry j) ≡ Some f)
 
+-- what lies past the entries stands where the last one does; without entries, where all that was removed does
+abbrev pub tail_of : {E : Type 0} → (E → Option ℕ) → GroupContent E → Trace → Option ℕ
+tail_of at g u = if nat_lt u.low u.next then file_at at (g.entry (u.next - 1)) else u.since
+
 -- its ends and files are those of the entries that are there, or the group isn't there and its ends stay
 abbrev pub HasEnds : {E : Type 0} → (E → Option ℕ) → GroupContent E → Option ℕ → Trace → Trace → Type 0
 HasEnds at g reach t u =
-    ((g.there ≡ true) × AreEnds g reach u.low u.next u.top × AreFilesOf at g u.entry_file)
-    ⊎ ((g.there ≡ false) × (u.low ≡ t.low) × (u.next ≡ t.next) × (u.top ≡ t.top))
+    ((g.there ≡ true) × AreEnds g reach u.low u.next u.top × AreFilesOf at g u.entry_file × (u.tail ≡ tail_of at g u))
+    ⊎ ((g.there ≡ false) × (u.low ≡ t.low) × (u.next ≡ t.next) × (u.top ≡ t.top) × (u.tail ≡ u.since))
+
+-- so of each group that is there and has entries: what lies past them keeps no earlier file
+abbrev pub KeepLastTails : {E : Type 0} → (E → Option ℕ) → Traces → Content E → Type 0
+KeepLastTails at traces content = (group : ℕ) → (content group).there ≡ true → (traces group).low < (traces group).next
+    → (traces group).tail ≡ file_at at ((content group).entry ((traces group).next - 1))
 
 -- what was removed may have been so from the first append file on, or never was
 abbrev pub IsSince : ℕ → Trace → Trace → Type 0
-IsSince first t u = ((u.since ≡ Some first) × (u.tail ≡ Some first)) ⊎ ((t.since ≡ None) × (u.since ≡ None) × (u.tail ≡ None))
+IsSince first t u = (u.since ≡ Some first) ⊎ ((t.since ≡ None) × (u.since ≡ None))
 
 -- The trace that an opening makes of a group, where t was replayed over the append queue and reach is how far entries ever went.
 pub record IsMadeOf {E : Type 0} (at : E → Option ℕ) (first : ℕ) (g : GroupContent E) (reach : Option ℕ) (t u : Trace) : Type 0 where

@@ -9,30 +9,41 @@ use std::alloc::{AllocError, AllocFailed};
 use thiserror::Error;
 
 /// What is wrong with the bytes of a record: the first fault that is met.
-#[derive(Clone, Copy, Debug, PartialEq, Eq)]
+#[derive(Clone, Copy, Debug, PartialEq, Eq, Error)]
 pub enum RecordFault {
     /// The bytes end before the record that they begin, or before the checksum of a block of
     /// entries: with more bytes it may be one.
+    #[error("the bytes end before the record does")]
     CutShort,
     /// The items of the record end before a field that they must have: no further bytes help.
+    #[error("the items end before a field that they must have")]
     ItemsCutShort,
     /// The length is one that no record has.
+    #[error("no record has such a length")]
     BadLength,
     /// The items cannot begin where the header says.
+    #[error("the items can't begin where the header says")]
     BadOffset,
     /// The checksum of the items is another one, or is signed for another file.
+    #[error("the items have another checksum, or were signed for another file")]
     ItemsChecksum,
     /// A kind of item or of atomic mark that is none.
+    #[error("a kind of item or of atomic mark that is none")]
     BadTag,
     /// Entries of an item whose indexes do not follow one another, or none at all.
+    #[error("the indexes of an item's entries don't follow one another")]
     NotConsecutive,
     /// A key of no bytes.
+    #[error("a key of no bytes")]
     EmptyKey,
     /// Bytes stand between the last item and the checksum.
+    #[error("bytes stand between the last item and the checksum")]
     TrailingBytes,
     /// The block of entries does not have the length that its entries have together.
+    #[error("the block of entries isn't as long as its entries are together")]
     EntriesLength,
     /// The checksum of the entries is another one.
+    #[error("the entries have another checksum")]
     EntriesChecksum,
 }
 

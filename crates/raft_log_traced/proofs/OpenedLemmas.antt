@@ -13,11 +13,11 @@ use Rattle.raft_log_covers.specs.Trace.{Trace}
 use Rattle.raft_log_covers.proofs.FileLemmas.{not_there}
 use Rattle.raft_log_covers.proofs.KeptLemmas.{is_there_is}
 use Rattle.raft_log_traces.specs.Alike.{IsAlike, AreAlike}
-use Rattle.raft_log_traces.specs.Opened.{trace_filed, trace_since, trace_with_ends}
+use Rattle.raft_log_traces.specs.Opened.{trace_filed, trace_since, trace_tailed, trace_with_ends}
 use Rattle.raft_log_traces.proofs.AlikeLemmas.{joined, same}
 use Rattle.raft_log_traces.proofs.OpenedLemmas.{since_same}
 use Rattle.raft_log_marks.specs.Opened.{AreEnds, AreFilesOf, file_at, past_of}
-use Rattle.raft_log_traced.specs.Opened.{AreChanged, AreFiledUpTo, HasEntries, HasRest, HasSince, IsFiledOne, IsSetOne, is_file, run_begun}
+use Rattle.raft_log_traced.specs.Opened.{AreChanged, AreFiledUpTo, HasEntries, HasRest, HasSince, IsFiledOne, IsSetOne, IsTailedOne, is_file, run_begun, tail_behind}
 use Rattle.raft_log_traced.specs.Traced.{lies_in}
 
 -- ---- ends
@@ -63,12 +63,11 @@ pub elsewhere : (group : ℕ) (t : Trace) (ts us : Traces) → AreAlike (with_tr
 elsewhere group t ts us a other e = subst (λ (b : Bool). IsAlike (cond b t (ts other)) (us other)) e (a other)
 
 pub no_rest : (t : Trace) → HasRest t t
-no_rest t = record { since = refl; tail = refl; key_file = λ k. refl; cleaned = refl; deleted = λ k. refl }
+no_rest t = record { since = refl; key_file = λ k. refl; cleaned = refl; deleted = λ k. refl }
 
 pub both_rest : (t u v : Trace) → HasRest t u → HasRest u v → HasRest t v
 both_rest t u v a b = record {
   since = b.since ∙ a.since;
-  tail = b.tail ∙ a.tail;
   key_file = λ k. b.key_file k ∙ a.key_file k;
   cleaned = b.cleaned ∙ a.cleaned;
   deleted = λ k. b.deleted k ∙ a.deleted k;
@@ -77,7 +76,6 @@ both_rest t u v a b = record {
 pub alike_rest : (t u : Trace) → IsAlike t u → HasRest t u
 alike_rest t u a = record {
   since = sym a.since;
-  tail = sym a.tail;
   key_file = λ k. sym (a.key_file k);
   cleaned = sym a.cleaned;
   deleted = λ k. sym (a.deleted k);
@@ -88,15 +86,16 @@ record HasAll (t u : Trace) : Type 0 where
   low : u.low ≡ t.low
   next : u.next ≡ t.next
   top : u.top ≡ t.top
+  tail : u.tail ≡ t.tail
   rest : HasRest t u
 
 begun_all : (index : ℕ) (before o : Option ℕ) (t : Trace) → HasAll t (run_begun index before o t)
-begun_all index before None t = record { low = refl; next = refl; top = refl; rest = no_rest t }
+begun_all index before None t = record { low = refl; next = refl; top = refl; tail = refl; rest = no_rest t }
 begun_all index before (Some file) t = by_test (is_file before file)
   where
     by_test : (b : Bool) → HasAll t (cond b t (trace_filed index file t))
-    by_test true = record { low = refl; next = refl; top = refl; rest = no_rest t }
-    by_test false = record { low = refl; next = refl; top = refl; rest = record { since = refl; tail = refl; key_file = λ k. refl; cleaned = refl; deleted = λ k. refl } }
+    by_test true = record { low = refl; next = refl; top = refl; tail = refl; rest = no_rest t }
+    by_test false = record { low = refl; next = refl; top = refl; tail = refl; rest = record { since = refl; key_file = λ k. refl; cleaned = refl; deleted = λ k. refl } }
 
 is_that : (before : Option ℕ) (file : ℕ) → is_file before file ≡ true → before ≡ Some file
 is_that None file e = absurd (true≢false (sym e))
@@ -181,6 +180,7 @@ first_filed g group low ts = record {
   low_stays = refl;
   next_stays = refl;
   top_stays = refl;
+  tail_stays = refl;
   rest = no_rest (ts group);
   files = λ none. record {
     own = λ i f l m is. absurd (omega (arith, l, m));
@@ -199,6 +199,7 @@ next_filed g group low index before o ts us vs k at a =
       low_stays = sym here.low ∙ all.low ∙ k.low_stays;
       next_stays = sym here.next ∙ all.next ∙ k.next_stays;
       top_stays = sym here.top ∙ all.top ∙ k.top_stays;
+      tail_stays = sym here.tail ∙ all.tail ∙ k.tail_stays;
       rest = both_rest (ts group) (us group) (vs group) k.rest (both_rest (us group) (run_begun index before o (us group)) (vs group) all.rest (alike_rest (run_begun index before o (us group)) (vs group) here));
       files = λ none. moved_files g low (index + 1) o (run_begun index before o (us group)).entry_file (vs group).entry_file here.entry_file
           (begun_files g low index before o (us group) (sym at) (k.files none));
@@ -228,6 +229,7 @@ filed_over_hole g group low from index before ts us order none k = record {
   low_stays = k.low_stays;
   next_stays = k.next_stays;
   top_stays = k.top_stays;
+  tail_stays = k.tail_stays;
   rest = k.rest;
   files = λ empty. over_hole g low from index before (us group).entry_file order none (k.files empty);
 }
@@ -252,21 +254,53 @@ files_all g reach low next top before file ends k = record {
         by_place false ea true eb = then (ltb-false j low ea) (ltb-true j next eb)
         by_place false ea false eb = absurd (nothing j (ends.above j (ltb-false j next eb)) s)
 
+same_files : (g : GroupContent EntryIndex) (f h : ℕ → Option ℕ) → ((i : ℕ) → f i ≡ h i) → AreFilesOf lies_in g f → AreFilesOf lies_in g h
+same_files g f h e k = record {
+  own = λ i file is. sym (e i) ∙ k.own i file is;
+  some = λ i j l m. subst (λ (o : Option ℕ). IsSome o) (e i) (k.some i j l m);
+  told = λ i file is. k.told i file (e i ∙ is);
+}
+
 ends_at : (g : GroupContent EntryIndex) (reach : Option ℕ) (low next top a b c : ℕ) → low ≡ a → next ≡ b → top ≡ c → AreEnds g reach low next top → AreEnds g reach a b c
 ends_at g reach low next top a b c p q r k =
     subst (λ (n : ℕ). AreEnds g reach n b c) p (subst (λ (n : ℕ). AreEnds g reach low n c) q (subst (λ (n : ℕ). AreEnds g reach low next n) r k))
 
-pub set_one : (g : GroupContent EntryIndex) (reach : Option ℕ) (group low next top : ℕ) (ts us vs : Traces) → AreEnds g reach low next top → AreAlike (with_trace group (trace_with_ends low next top (ts group)) ts) us
-    → ((before : Option ℕ) × IsFiledOne g group low next before us vs) → IsSetOne g reach group ts vs
-set_one g reach group low next top ts us vs ends a filed =
+-- the tail stays without entries, and is the file of the last one where there are some
+pub tail_stays : (g : GroupContent EntryIndex) (group low next : ℕ) (ts : Traces) → next ≤ low → IsTailedOne g group low next ts ts
+tail_stays g group low next ts h = by_ends (nat_lt low next) refl
+  where
+    by_ends : (b : Bool) → nat_lt low next ≡ b → AreAlike (with_trace group (trace_tailed (cond b (file_at lies_in (g.entry (next - 1))) (ts group).tail) (ts group)) ts) ts
+    by_ends true e = let full = ltb-true low next e in absurd (omega (arith, h, full))
+    by_ends false e = same_trace group ts
+
+pub tail_moves : (g : GroupContent EntryIndex) (group low next : ℕ) (file : Option ℕ) (ts us : Traces) → low < next → file ≡ file_at lies_in (g.entry (next - 1))
+    → AreAlike (with_trace group (trace_tailed file (ts group)) ts) us → IsTailedOne g group low next ts us
+tail_moves g group low next file ts us h is a = by_ends (nat_lt low next) refl
+  where
+    by_ends : (b : Bool) → nat_lt low next ≡ b → AreAlike (with_trace group (trace_tailed (cond b (file_at lies_in (g.entry (next - 1))) (ts group).tail) (ts group)) ts) us
+    by_ends true e = subst (λ (o : Option ℕ). AreAlike (with_trace group (trace_tailed o (ts group)) ts) us) is a
+    by_ends false e = let empty = ltb-false low next e in absurd (omega (arith, h, empty))
+
+pub set_one : (g : GroupContent EntryIndex) (reach : Option ℕ) (group low next top : ℕ) (ts us vs ws : Traces) → AreEnds g reach low next top → AreAlike (with_trace group (trace_with_ends low next top (ts group)) ts) us
+    → ((before : Option ℕ) × IsFiledOne g group low next before us vs) → IsTailedOne g group low next vs ws → IsSetOne g reach group ts ws
+set_one g reach group low next top ts us vs ws ends a filed tailed =
     let here = at_group group (trace_with_ends low next top (ts group)) ts us a in
-    let k = filed.1 in record {
-      others = λ other e. joined (ts other) (us other) (vs other) (elsewhere group (trace_with_ends low next top (ts group)) ts us a other e) (k.others other e);
+    let k = filed.1 in
+    let tail : Option ℕ = tail_behind g low next (vs group).tail in
+    let last = at_group group (trace_tailed tail (vs group)) vs ws tailed in
+    let low_is : low ≡ (ws group).low = here.low ∙ sym k.low_stays ∙ last.low in
+    let next_is : next ≡ (ws group).next = here.next ∙ sym k.next_stays ∙ last.next in
+    let tail_was : (vs group).tail ≡ (ts group).tail = k.tail_stays ∙ sym here.tail in record {
+      others = λ other e. joined (ts other) (vs other) (ws other) (joined (ts other) (us other) (vs other) (elsewhere group (trace_with_ends low next top (ts group)) ts us a other e) (k.others other e))
+          (elsewhere group (trace_tailed tail (vs group)) vs ws tailed other e);
       own = record {
-        ends = ends_at g reach low next top (vs group).low (vs group).next (vs group).top (here.low ∙ sym k.low_stays) (here.next ∙ sym k.next_stays) (here.top ∙ sym k.top_stays) ends;
-        files = files_all g reach low next top filed.0 (vs group).entry_file ends (k.files (λ i. sym (here.entry_file i)));
-        rest = both_rest (ts group) (us group) (vs group)
-            (record { since = sym here.since; tail = sym here.tail; key_file = λ q. sym (here.key_file q); cleaned = sym here.cleaned; deleted = λ q. sym (here.deleted q) }) k.rest;
+        ends = ends_at g reach low next top (ws group).low (ws group).next (ws group).top low_is next_is (here.top ∙ sym k.top_stays ∙ last.top) ends;
+        files = same_files g (vs group).entry_file (ws group).entry_file last.entry_file (files_all g reach low next top filed.0 (vs group).entry_file ends (k.files (λ i. sym (here.entry_file i))));
+        tail = sym last.tail ∙ (λ i. tail_behind g (low_is i) (next_is i) (tail_was i));
+        rest = both_rest (ts group) (us group) (ws group)
+            (record { since = sym here.since; key_file = λ q. sym (here.key_file q); cleaned = sym here.cleaned; deleted = λ q. sym (here.deleted q) })
+            (both_rest (us group) (vs group) (ws group) k.rest
+            (record { since = sym last.since; key_file = λ q. sym (last.key_file q); cleaned = sym last.cleaned; deleted = λ q. sym (last.deleted q) }));
       };
     }
 
@@ -341,17 +375,42 @@ since_is_change first = record {
   again = λ group s t u h k. joined (trace_since first s) (trace_since first t) u (since_same first (trace_since first s) t h) k;
 }
 
+-- of the same entries two traces have ends that are both empty, or both not
+empty_alike : (g : GroupContent EntryIndex) (reach : Option ℕ) (a b c low next top : ℕ) → AreEnds g reach a b c → AreEnds g reach low next top → nat_lt low next ≡ false → nat_lt a b ≡ false
+empty_alike g reach a b c low next top ends others none = by_test (nat_lt a b) refl
+  where
+    gone : (o : Option EntryIndex) → o ≡ None → IsSome o → ⊥
+    gone o e s = not_there o e s
+
+    by_test : (x : Bool) → nat_lt a b ≡ x → x ≡ false
+    by_test false e = refl
+    by_test true e = by_place (nat_lt a low) refl
+      where
+        some : IsSome (g.entry a)
+        some = ends.first (ltb-true a b e)
+
+        by_place : (y : Bool) → nat_lt a low ≡ y → true ≡ false
+        by_place true l = absurd (gone (g.entry a) (others.below a (ltb-true a low l)) some)
+        by_place false l =
+            let high = ltb-false low next none in
+            let from = ltb-false a low l in
+            absurd (gone (g.entry a) (others.above a (omega (arith, high, from))) some)
+
 pub entries_are_change : (content : ℕ → GroupContent EntryIndex) (reach : ℕ → Option ℕ) → IsChange (λ group. HasEntries (content group) (reach group))
 entries_are_change content reach = record {
-  before = λ group s t u a h. record { ends = h.ends; files = h.files; rest = both_rest s t u (alike_rest s t a) h.rest };
+  before = λ group s t u a h. record { ends = h.ends; files = h.files; tail = h.tail ∙ (λ i. tail_behind (content group) u.low u.next (sym a.tail i)); rest = both_rest s t u (alike_rest s t a) h.rest };
   after = λ group s t u h a. record {
     ends = ends_at (content group) (reach group) t.low t.next t.top u.low u.next u.top a.low a.next a.top h.ends;
-    files = record {
-      own = λ i f is. sym (a.entry_file i) ∙ h.files.own i f is;
-      some = λ i j l m. subst (λ (o : Option ℕ). IsSome o) (a.entry_file i) (h.files.some i j l m);
-      told = λ i f is. h.files.told i f (a.entry_file i ∙ is);
-    };
+    files = same_files (content group) t.entry_file u.entry_file a.entry_file h.files;
+    tail = sym a.tail ∙ h.tail ∙ (λ i. tail_behind (content group) (a.low i) (a.next i) s.tail);
     rest = both_rest s t u h.rest (alike_rest t u a);
   };
-  again = λ group s t u h k. record { ends = k.ends; files = k.files; rest = both_rest s t u h.rest k.rest };
+  again = λ group s t u h k. record { ends = k.ends; files = k.files; tail = k.tail ∙ again group s t u h k (nat_lt u.low u.next) refl; rest = both_rest s t u h.rest k.rest };
 }
+  where
+    again : (group : ℕ) (s t u : Trace) → HasEntries (content group) (reach group) s t → HasEntries (content group) (reach group) t u → (b : Bool) → nat_lt u.low u.next ≡ b
+        → cond b (file_at lies_in ((content group).entry (u.next - 1))) t.tail ≡ cond b (file_at lies_in ((content group).entry (u.next - 1))) s.tail
+    again group s t u h k true e = refl
+    again group s t u h k false e =
+        let empty = empty_alike (content group) (reach group) t.low t.next t.top u.low u.next u.top h.ends k.ends e in
+        h.tail ∙ ap (λ (b : Bool). cond b (file_at lies_in ((content group).entry (t.next - 1))) s.tail) empty

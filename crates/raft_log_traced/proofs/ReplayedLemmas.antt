@@ -1,5 +1,5 @@
 -- What was replayed can be cleaned by the traces that an opening makes.
-use Rattle.std.proofs.Common.{◌≡◌, ℕ, Bool, true, false, cond, List, [], ◌∷◌, ◌++◌, map, Option, Some, None, refl, sym, ap, subst, ◌∙◌, inl, inr, ◌⊎◌}
+use Rattle.std.proofs.Common.{◌≡◌, ◌<◌, ◌-◌, ℕ, Bool, true, false, cond, List, [], ◌∷◌, ◌++◌, map, Option, Some, None, refl, sym, ap, subst, ◌∙◌, arith, ltb-false, inl, inr, ◌⊎◌}
 use Rattle.std.specs.Prelude.{nat_eq, nat_le, nat_lt}
 use Rattle.std.specs.List.{AllByRecursion}
 use Rattle.std.specs.Ordering.{eq_by_cmp, nat_cmp}
@@ -27,11 +27,11 @@ use Rattle.raft_log_recovery.specs.Replay.{Placed}
 use Rattle.raft_log_replay.specs.Batches.{content_over, reach_over, records_in}
 use Rattle.raft_log_traces.specs.Alike.{AreAlike, IsAlike}
 use Rattle.raft_log_traces.proofs.LawLemmas.{entries_say_nothing}
-use Rattle.raft_log_marks.specs.Opened.{HasEnds, IsMadeOf, IsSince, TellPlaces, reach_of_records}
+use Rattle.raft_log_marks.specs.Opened.{HasEnds, IsMadeOf, IsSince, TellPlaces, file_at, reach_of_records}
 use Rattle.raft_log_marks.specs.Standing.{CanBeCleaned}
 use Rattle.raft_log_marks.proofs.FoundLemmas.{replayed_both}
 use Rattle.raft_log_marks.proofs.MadeLemmas.{opened_queues_can_be_cleaned, opened_queues_tell_places}
-use Rattle.raft_log_traced.specs.Opened.{AreChanged, HasEntries, HasRest, HasSince}
+use Rattle.raft_log_traced.specs.Opened.{AreChanged, HasEntries, HasRest, HasSince, tail_behind}
 use Rattle.raft_log_traced.specs.Traced.{AreOf, file_on, filed_in, lies_in, traces_over, traces_with}
 use Rattle.raft_log_traced.proofs.OpenedLemmas.{alike_rest}
 
@@ -187,9 +187,20 @@ made_of first g reach r t s u replayed since entered = record {
     made (inl e) = e.1.rest
     made (inr e) = alike_rest s u e.1
 
+    -- as removals were noted, the tail stood in the same file
+    tail_since : (HasSince first 0 t s) ⊎ (IsAlike t s × (t ≡ new_trace)) → s.tail ≡ s.since
+    tail_since (inl a) = sym a.tail ∙ a.since
+    tail_since (inr b) = sym b.0.tail ∙ ap (λ (x : Trace). x.tail) b.1 ∙ sym (ap (λ (x : Trace). x.since) b.1) ∙ b.0.since
+
     ends_of : ((g.there ≡ true) × HasEntries g reach s u) ⊎ ((g.there ≡ false) × IsAlike s u) → HasEnds lies_in g reach r u
-    ends_of (inl e) = inl (e.0, e.1.ends, e.1.files)
-    ends_of (inr e) = inr (e.0, sym e.1.low ∙ (kept since).0 ∙ sym replayed.low, sym e.1.next ∙ (kept since).1 ∙ sym replayed.next, sym e.1.top ∙ (kept since).2 ∙ sym replayed.top)
+    ends_of (inl e) = inl (e.0, e.1.ends, e.1.files, e.1.tail ∙ (λ i. tail_behind g u.low u.next ((tail_since since ∙ sym e.1.rest.since) i)))
+    ends_of (inr e) = inr (
+      e.0,
+      sym e.1.low ∙ (kept since).0 ∙ sym replayed.low,
+      sym e.1.next ∙ (kept since).1 ∙ sym replayed.next,
+      sym e.1.top ∙ (kept since).2 ∙ sym replayed.top,
+      sym e.1.tail ∙ tail_since since ∙ e.1.since,
+    )
 
     rest : IsRest r u
     rest = record {
@@ -199,12 +210,19 @@ made_of first g reach r t s u replayed since entered = record {
     }
 
     since_of : (HasSince first 0 t s) ⊎ (IsAlike t s × (t ≡ new_trace)) → IsSince first r u
-    since_of (inl a) = inl ((made entered).since ∙ sym a.since, (made entered).tail ∙ sym a.tail)
+    since_of (inl a) = inl ((made entered).since ∙ sym a.since)
     since_of (inr b) = inr (
       replayed.since ∙ ap (λ (x : Trace). x.since) b.1,
       (made entered).since ∙ sym b.0.since ∙ ap (λ (x : Trace). x.since) b.1,
-      (made entered).tail ∙ sym b.0.tail ∙ ap (λ (x : Trace). x.tail) b.1,
     )
+
+-- where there are entries, what lies past them has the file of the last one
+pub last_tail : (g : GroupContent EntryIndex) (reach : Option ℕ) (t u : Trace) → HasEntries g reach t u → u.low < u.next → u.tail ≡ file_at lies_in (g.entry (u.next - 1))
+last_tail g reach t u h full = h.tail ∙ by_ends (nat_lt u.low u.next) refl
+  where
+    by_ends : (b : Bool) → nat_lt u.low u.next ≡ b → cond b (file_at lies_in (g.entry (u.next - 1))) t.tail ≡ file_at lies_in (g.entry (u.next - 1))
+    by_ends true e = refl
+    by_ends false e = let empty = ltb-false u.low u.next e in absurd (omega (arith, full, empty))
 
 -- ---- all of them
 

@@ -1,14 +1,14 @@
 -- Traces as an opening makes them, group by group.
-use Rattle.std.specs.Prelude.{◌≡◌, ◌≤◌, ◌<◌, ℕ, Bool, true, false, if◌then◌else◌, nat_eq, List, Option, Some, None, IsSome}
+use Rattle.std.specs.Prelude.{◌≡◌, ◌≤◌, ◌<◌, ◌-◌, ℕ, Bool, true, false, if◌then◌else◌, nat_eq, nat_lt, List, Option, Some, None, IsSome}
 use Rattle.std.specs.Ordering.{eq_by_cmp, nat_cmp}
 use Rattle.std.specs.Set.{is_member}
 use Rattle.raft_log_records.specs.declared.item.EntryIndex.{EntryIndex}
 use Rattle.raft_log_memtables.specs.Content.{GroupContent}
-use Rattle.raft_log_covers.specs.Kept.{Traces}
+use Rattle.raft_log_covers.specs.Kept.{Traces, with_trace}
 use Rattle.raft_log_covers.specs.Marks.{is_in}
 use Rattle.raft_log_covers.specs.Trace.{Trace}
-use Rattle.raft_log_traces.specs.Alike.{IsAlike}
-use Rattle.raft_log_traces.specs.Opened.{trace_filed, trace_since}
+use Rattle.raft_log_traces.specs.Alike.{AreAlike, IsAlike}
+use Rattle.raft_log_traces.specs.Opened.{trace_filed, trace_since, trace_tailed}
 use Rattle.raft_log_marks.specs.Opened.{AreEnds, AreFilesOf, file_at}
 use Rattle.raft_log_traced.specs.Traced.{lies_in}
 
@@ -37,10 +37,9 @@ pub record AreFiledUpTo (g : GroupContent EntryIndex) (low index : ℕ) (before 
 
 -- ---- one group is changed
 
--- all but the ends and files of entries stays
+-- all but the ends, the files and the tail of entries stays
 pub record HasRest (t u : Trace) : Type 0 where
   pub since : u.since ≡ t.since
-  pub tail : u.tail ≡ t.tail
   pub key_file : (k : List ℕ) → u.key_file k ≡ t.key_file k
   pub cleaned : u.cleaned ≡ t.cleaned
   pub deleted : (k : List ℕ) → is_in k u.deleted ≡ is_in k t.deleted
@@ -51,13 +50,23 @@ pub record IsFiledOne (g : GroupContent EntryIndex) (group low next : ℕ) (befo
   pub low_stays : (us group).low ≡ (ts group).low
   pub next_stays : (us group).next ≡ (ts group).next
   pub top_stays : (us group).top ≡ (ts group).top
+  pub tail_stays : (us group).tail ≡ (ts group).tail
   pub rest : HasRest (ts group) (us group)
   pub files : ((i : ℕ) → (ts group).entry_file i ≡ None) → AreFiledUpTo g low next before (us group).entry_file
 
--- the trace has the ends and files of the entries that are there
+-- what lies past entries that end before an index stands in the append file of the last one; without entries it stays
+abbrev pub tail_behind : GroupContent EntryIndex → ℕ → ℕ → Option ℕ → Option ℕ
+tail_behind g low next tail = if nat_lt low next then file_at lies_in (g.entry (next - 1)) else tail
+
+-- the tail is that of the entries, and other groups stay
+abbrev pub IsTailedOne : GroupContent EntryIndex → ℕ → ℕ → ℕ → Traces → Traces → Type 0
+IsTailedOne g group low next ts us = AreAlike (with_trace group (trace_tailed (tail_behind g low next (ts group).tail) (ts group)) ts) us
+
+-- the trace has the ends, the files and the tail of the entries that are there
 pub record HasEntries (g : GroupContent EntryIndex) (reach : Option ℕ) (t u : Trace) : Type 0 where
   pub ends : AreEnds g reach u.low u.next u.top
   pub files : AreFilesOf lies_in g u.entry_file
+  pub tail : u.tail ≡ tail_behind g u.low u.next t.tail
   pub rest : HasRest t u
 
 pub record IsSetOne (g : GroupContent EntryIndex) (reach : Option ℕ) (group : ℕ) (ts us : Traces) : Type 0 where

@@ -8,7 +8,7 @@ ghost use Rattle.raft_log_covers.specs.Kept.{new_trace, with_trace};
 ghost use Rattle.raft_log_marks.specs.Opened.{AreEnds, file_at, past_of};
 ghost use Rattle.raft_log_memtables.specs.MemTables.{content_in, reach_in};
 ghost use Rattle.raft_log_traced.specs.Opened.{AreChanged, IsFiledOne, HasEntries, HasSince};
-ghost use Rattle.raft_log_traced.specs.Opened.{IsNextWithin, IsSetOne, is_file, run_begun};
+ghost use Rattle.raft_log_traced.specs.Opened.{IsNextWithin, IsSetOne, IsTailedOne, is_file, run_begun};
 ghost use Rattle.raft_log_traced.specs.Traced.{lies_in};
 ghost use Rattle.raft_log_traces.specs.Alike.{AreAlike, IsAlike};
 ghost use Rattle.raft_log_traces.specs.GroupTraces.{traces_in};
@@ -124,13 +124,33 @@ fn set_files(
     Ok(())
 }
 
-/// The ends and files of a group's entries are those of the entries that are there.
+/// What lies past the entries of a group stands in the file of the last one: a change of keys alone,
+/// or of what lies below the entries, moves it into no append file.
+fn set_tail(
+    traces: &mut GroupTraces,
+    tables: &MemTables,
+    group: u64,
+    low: u128,
+    next: u128,
+) -> Result<(), AllocError>
+    requires { next ≤ 2 ^ 64 }
+    ensures { OnOk result (IsTailedOne (content_in tables.now group) group low next (traces_in traces.old) (traces_in traces.new)) }
+{
+    if next <= low {
+        return Ok(());
+    }
+    let file = file_of(tables, group, (next - 1) as u64);
+    traces.set_tail(group, file)
+}
+
+/// The ends, the files and the tail of a group's entries are those of the entries that are there.
 fn set_group(traces: &mut GroupTraces, tables: &MemTables, group: u64) -> Result<(), AllocError>
     ensures { OnOk result (IsSetOne (content_in tables.now group) (reach_in tables.now group) group (traces_in traces.old) (traces_in traces.new)) }
 {
     let (low, next, top) = ends_of(tables, group);
     traces.set_ends(group, low, next, top)?;
-    set_files(traces, tables, group, low, next)
+    set_files(traces, tables, group, low, next)?;
+    set_tail(traces, tables, group, low, next)
 }
 
 fn set_groups(

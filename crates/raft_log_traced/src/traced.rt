@@ -4,7 +4,7 @@ ghost use Rattle.std.specs.Prelude.{◌≡◌, ◌↔◌, ◌+◌, ◌++◌, ℕ
 ghost use Rattle.raft_log_covers.specs.Cells.{AreUnmarked};
 ghost use Rattle.raft_log_covers.specs.Kept.{new_trace, traces_after};
 ghost use Rattle.raft_log_covers.specs.Queues.{FilesRise, batches_of};
-ghost use Rattle.raft_log_marks.specs.Opened.{TellPlaces};
+ghost use Rattle.raft_log_marks.specs.Opened.{KeepLastTails, TellPlaces};
 ghost use Rattle.raft_log_marks.specs.Standing.{CanBeCleaned};
 ghost use Rattle.raft_log_memtables.specs.Content.{after_batch, nothing, reach_after_batch};
 ghost use Rattle.raft_log_memtables.specs.MemTable.{batch_items};
@@ -148,7 +148,8 @@ impl NewMachine for TracedReplay {
 impl TracedReplay {
     /// The tables and traces of the batches that were replayed, where this is the first append file.
     /// By them the queues can be cleaned, whatever files were left over, if no batch of the append
-    /// queue is of an atomic group. The only error is want of memory.
+    /// queue is of an atomic group. No old file is kept for what lies past a group's entries. The only
+    /// error is want of memory.
     pub fn finish(self, first: FileSeq) -> Result<TracedTables, AllocError>
         ensures content { (placed : List Placed) → IsReplayedTraced self placed → IfOk result (λ log. content_in log.tables ≡ content_over nothing placed) }
         ensures reach { (placed : List Placed) → IsReplayedTraced self placed → IfOk result (λ log. reach_in log.tables ≡ reach_over (λ group. None) placed) }
@@ -157,6 +158,7 @@ impl TracedReplay {
             → IfOk result (λ log. CanBeCleaned first (traces_in log.traces) (records_in rewrites) (content_in log.tables) (filed_in appends)) }
         ensures placed { (rewrites : List Placed) (appends : List Placed) → IsReplayedTraced self (rewrites ++ appends) → AreOf Rewrite rewrites → AreOf Append appends
             → FilesRise first (filed_in appends) → AreUnmarked (batches_of (filed_in appends)) → IfOk result (λ log. TellPlaces lies_in (traces_in log.traces) (content_in log.tables)) }
+        ensures tails { IfOk result (λ log. KeepLastTails lies_in (traces_in log.traces) (content_in log.tables)) }
         ensures marked { (placed : List Placed) → IsReplayedTraced self placed → IfOk result (λ log. log.has_marked ≡ any_marked placed) }
         ensures unmarked { (rewrites : List Placed) (appends : List Placed) → IsReplayedTraced self (rewrites ++ appends) → AreOf Append appends
             → IfOk result (λ log. log.has_marked ≡ false → AreUnmarked (batches_of (filed_in appends))) }

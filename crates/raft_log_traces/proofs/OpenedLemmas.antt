@@ -7,7 +7,7 @@ use Rattle.raft_log_covers.specs.Trace.{Trace}
 use Rattle.raft_log_covers.specs.Kept.{new_trace, with_trace}
 use Rattle.raft_log_traces.specs.declared.group_trace.GroupTrace.{GroupTrace}
 use Rattle.raft_log_traces.specs.Alike.{IsAlike, AreAlike}
-use Rattle.raft_log_traces.specs.Opened.{trace_filed, trace_since, trace_with_ends}
+use Rattle.raft_log_traces.specs.Opened.{trace_filed, trace_since, trace_tailed, trace_with_ends}
 use Rattle.raft_log_traces.specs.Runs.{file_above}
 use Rattle.raft_log_traces.specs.Traces.{trace_by, trace_of, traces_at}
 use Rattle.raft_log_traces.proofs.AlikeLemmas.{joined}
@@ -36,6 +36,19 @@ filed_same first file t u a = record {
   since = a.since;
   tail = a.tail;
   entry_file = λ i. ap (λ (o : Option ℕ). cond (nat_le first i) (Some file) o) (a.entry_file i);
+  key_file = a.key_file;
+  cleaned = a.cleaned;
+  deleted = a.deleted;
+}
+
+pub tailed_same : (file : Option ℕ) (t u : Trace) → IsAlike t u → IsAlike (trace_tailed file t) (trace_tailed file u)
+tailed_same file t u a = record {
+  low = a.low;
+  next = a.next;
+  top = a.top;
+  since = a.since;
+  tail = refl;
+  entry_file = a.entry_file;
   key_file = a.key_file;
   cleaned = a.cleaned;
   deleted = a.deleted;

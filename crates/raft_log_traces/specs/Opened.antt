@@ -1,5 +1,5 @@
 -- Traces as an opening makes them.
-use Rattle.std.specs.Prelude.{ℕ, if◌then◌else◌, nat_le, Some, None}
+use Rattle.std.specs.Prelude.{ℕ, if◌then◌else◌, nat_le, Option, Some, None}
 use Rattle.raft_log_covers.specs.Trace.{Trace}
 
 -- with other ends, and how far entries reached. None stands in an append file
@@ -25,6 +25,20 @@ trace_filed first file t = record {
   since = t.since;
   tail = t.tail;
   entry_file = λ i. if nat_le first i then Some file else t.entry_file i;
+  key_file = t.key_file;
+  cleaned = t.cleaned;
+  deleted = t.deleted;
+}
+
+-- what lies past the entries stands in this file, or in no append file
+abbrev pub trace_tailed : Option ℕ → Trace → Trace
+trace_tailed file t = record {
+  low = t.low;
+  next = t.next;
+  top = t.top;
+  since = t.since;
+  tail = file;
+  entry_file = t.entry_file;
   key_file = t.key_file;
   cleaned = t.cleaned;
   deleted = t.deleted;

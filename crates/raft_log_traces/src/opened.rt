@@ -7,7 +7,7 @@ ghost use Rattle.std.specs.Set.{is_member};
 ghost use Rattle.raft_log_covers.specs.Kept.{new_trace, with_trace};
 ghost use Rattle.raft_log_traces.specs.Alike.{AreAlike, IsAlike};
 ghost use Rattle.raft_log_traces.specs.GroupTraces.{traces_in};
-ghost use Rattle.raft_log_traces.specs.Opened.{trace_filed, trace_with_ends, trace_since};
+ghost use Rattle.raft_log_traces.specs.Opened.{trace_filed, trace_with_ends, trace_since, trace_tailed};
 ghost use Rattle.raft_log_traces.specs.Traces.{trace_of, traces_at};
 
 use crate::group_trace::{GroupTrace, earlier};
@@ -36,6 +36,13 @@ impl GroupTrace {
         put_from(&mut self.runs, first, file)?;
         self.floor = earlier(first, self.floor);
         Ok(())
+    }
+
+    /// What lies past the group's entries stands in this file, or in no append file.
+    fn set_tail(&mut self, file: Option<FileSeq>)
+        ensures { IsAlike (trace_tailed file (trace_of self.old)) (trace_of self.new) }
+    {
+        self.tail = file;
     }
 
     /// All that is no entry or key may have changed from a file on.
@@ -81,6 +88,24 @@ fn set_file(
     }
     let mut trace = GroupTrace::new(alloc);
     trace.set_file(first, file)?;
+    traces.insert(raft_group_id, trace)?;
+    Ok(())
+}
+
+fn set_tail(
+    alloc: Global,
+    traces: &mut TraceMap,
+    raft_group_id: u64,
+    file: Option<FileSeq>,
+) -> Result<(), AllocError>
+    ensures { OnOk result (AreAlike (with_trace raft_group_id (trace_tailed file (traces_at traces.old raft_group_id)) (traces_at traces.old)) (traces_at traces.new)) }
+{
+    if let Some(trace) = traces.get_mut(&raft_group_id) {
+        trace.set_tail(file);
+        return Ok(());
+    }
+    let mut trace = GroupTrace::new(alloc);
+    trace.set_tail(file);
     traces.insert(raft_group_id, trace)?;
     Ok(())
 }
@@ -140,6 +165,15 @@ impl GroupTraces {
         ensures { OnOk result (AreAlike (with_trace raft_group_id (trace_filed first file (traces_in self.old raft_group_id)) (traces_in self.old)) (traces_in self.new)) }
     {
         set_file(self.alloc, &mut self.traces, raft_group_id, first, file)
+    }
+
+    /// What lies past the entries of a group, whose ends were set, stands in an append file, or in none.
+    /// After an `Err`, for want of memory, the traces are given up.
+    #[tactic(auto, unfolding(crate::specs::GroupTraces::traces_in))]
+    pub fn set_tail(&mut self, raft_group_id: u64, file: Option<FileSeq>) -> Result<(), AllocError>
+        ensures { OnOk result (AreAlike (with_trace raft_group_id (trace_tailed file (traces_in self.old raft_group_id)) (traces_in self.old)) (traces_in self.new)) }
+    {
+        set_tail(self.alloc, &mut self.traces, raft_group_id, file)
     }
 
     /// What was removed from a group, or changed in it, may have been so from an append file on. After

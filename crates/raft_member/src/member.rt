@@ -16,7 +16,8 @@ use raft_group_storage::GroupStorage;
 use raft_messages::Message;
 use raft_state::{BasicNode, Bytes};
 use std::alloc::{AllocError, Global};
-use std::mem;
+use std::{fmt, mem};
+use thiserror::Error;
 
 /// A group whose nodes are numbers, and whose commands and answers are bytes (own).
 #[derive(Clone, Copy, Debug)]
@@ -46,12 +47,15 @@ pub enum Ended<X> {
 }
 
 /// How far an event came that met a fault (own): its member is down.
-#[derive(Debug, Drop)]
+#[derive(Debug, Drop, Error)]
+#[error_bound(F: fmt::Display)]
 pub enum Broken<F> {
     /// Want of memory: it isn't known whether the event is refused, and nothing of it was begun.
+    #[error("out of memory before the event was judged")]
     Unjudged(AllocError),
     /// It wasn't refused. Some of its storing commands are done, from the first on, and the one
     /// that failed is or isn't.
+    #[error("{0}")]
     Begun(F),
 }
 

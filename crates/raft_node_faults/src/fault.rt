@@ -7,60 +7,84 @@ use raft_machines::{MembershipFault, UnknownTokens};
 use raft_member::Broken;
 use raft_wire::FrameError;
 use std::alloc::AllocError;
+use std::fmt;
+use thiserror::Error;
 
 /// Why a node stopped in an event (own).
-#[derive(Debug, Drop)]
+#[derive(Debug, Drop, Error)]
+#[error_bound(F: fmt::Display)]
 pub enum Cause<F> {
     /// Want of memory in an event that isn't refused.
+    #[error("out of memory")]
     Memory,
     /// Want of memory before it was known whether the event is refused: nothing of it was begun.
+    #[error("out of memory before the event was judged")]
     Unjudged,
     /// The storage failed.
+    #[error("{0}")]
     Storage(F),
     /// What the event sends has no frame, as where a machine's snapshot is past its limit.
+    #[error("what the event sends has no frame: {0}")]
     Frame(FrameError),
 }
 
 /// A refusal of a node's call, by number and name (own). After 1 to 15 the group is as before.
-#[derive(Debug, Drop)]
+#[derive(Debug, Drop, Error)]
+#[error_bound(F: fmt::Display)]
 pub enum Fault<F> {
     /// 1: the node doesn't lead the group; the leader is named where it is known.
+    #[error("the node doesn't lead the group: the leader is {leader:?}")]
     NotLeader {
         /// The node that leads, where it is known.
         leader: Option<u64>,
     },
     /// 2: the group isn't there.
+    #[error("the group isn't there")]
     UnknownGroup,
     /// 3: the group is there already.
+    #[error("the group is there already")]
     GroupExists,
     /// 4: the group's state doesn't allow it: it was set up before.
+    #[error("the group's state doesn't allow it: it was set up before")]
     NotAllowed,
     /// 5: this node is no voter.
+    #[error("the node is no voter")]
     NotVoter,
     /// 6: the membership is refused; why is said of a first one.
+    #[error("the membership is refused: {why:?}")]
     Membership {
         /// Why, of a group's first membership.
         why: Option<MembershipFault>,
     },
     /// 7: the voter groups can't be changed.
+    #[error("the voter groups can't be changed")]
     VoterChange,
     /// 8: the change before isn't committed yet.
+    #[error("the change before isn't committed yet")]
     InProgress,
     /// 9: the command is longer than 65,536 bytes.
+    #[error("the command is longer than 65,536 bytes")]
     CommandTooLong,
     /// 10: a term, a place, a moment or the number of a request is at its end.
+    #[error("a term, a place, a moment or the number of a request is at its end")]
     NumberAtEnd,
     /// 11: the node failed before, and is to be opened again.
+    #[error("the node failed before, and is to be opened again")]
     Failed,
     /// 12: the frame isn't the peer's own, or isn't for this node.
+    #[error("the frame isn't the peer's own, or isn't for this node")]
     WrongParty,
     /// 13: more than a batch can hold. No call answers it: the number is kept.
+    #[error("more than a batch can hold")]
     TooMuchForBatch,
     /// 14: the message breaks a condition under which nodes send one.
+    #[error("the message breaks a condition under which nodes send one")]
     BreaksCondition,
     /// 15: the peer's stream is refused.
+    #[error("the peer's stream is refused: {0}")]
     Frame(FrameError),
     /// 16: the event stopped, and the node has failed. All tokens that waited stay unknown.
+    #[error("the node stopped: {cause}")]
     Stopped {
         /// Why.
         cause: Cause<F>,

@@ -5,6 +5,7 @@ use raft_log_engine::{EngineFault, NotOpened};
 use raft_log_files::{Config, Error};
 use raft_log_host::{HostFileSystem, OpenError};
 use raft_node_script::{HomeRefusal, NodeHome};
+use raft_node_status::{LogStatus, log_status};
 use raft_script_machines::ScriptMachine;
 use raft_store::Store;
 use std::marker::PhantomData;
@@ -66,6 +67,11 @@ fn refusal_of_log(fault: &EngineFault, files: &HostFileSystem) -> HomeRefusal {
     }
 }
 
+// The files of a log.
+fn status_of(log: &HostLog) -> LogStatus {
+    log_status(log.engine())
+}
+
 impl<M: ScriptMachine> NodeHome for DiskHome<M> {
     type Machine = M;
 
@@ -90,5 +96,9 @@ impl<M: ScriptMachine> NodeHome for DiskHome<M> {
 
     fn complain(&self, storage: &Self::Storage) {
         self.complain_of(storage.log().files());
+    }
+
+    fn log_status(&self, storage: &Self::Storage) -> LogStatus {
+        status_of(storage.log())
     }
 }

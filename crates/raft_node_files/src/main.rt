@@ -8,18 +8,18 @@ mod home;
 mod input;
 mod output;
 mod settings;
+mod timers;
 
 use crate::end::{End, end_of_script};
 use home::DiskHome;
 use input::KnownLines;
 use output::Answers;
 use raft_kv::KvMachine;
-use raft_log_files::Config;
 use raft_machines::AddingMachine;
 use raft_node_script::{ScriptEnd, run_node_script};
 use raft_script_lines::number_of;
 use raft_script_machines::ScriptMachine;
-use settings::{SettingsFault, settings_in, settings_of_file};
+use settings::{NodeSettings, SettingsFault, settings_in, settings_of_file};
 use std::marker::PhantomData;
 use std::process::ExitCode;
 use std::thread::Threads;
@@ -34,8 +34,10 @@ const HELP: &str = "
 Runs node ID on the files of DIRECTORY, which is made if it isn't there.
 Its groups add up amounts. With `kv` they keep values by keys; the same
 directory is to be opened with the same machine each time.
-SETTINGS is a TOML file with settings of its log. Without one a file is
-full at 64 KiB, and the log is cleaned past 256 KiB.
+SETTINGS is a TOML file with settings of its log, and a table `timers` with
+those of its groups' clocks. Without one a file is full at 64 KiB, the log
+is cleaned past 256 KiB, and clocks run as docs/SCRIPT.md says.
+The line `tick` lets a moment pass: the node asks itself for what is due.
 Each line of standard input is answered by a line; docs/SCRIPT.md has them.
 One that isn't understood is told on standard error, and passed over.
 
@@ -63,20 +65,29 @@ fn run<M: ScriptMachine, R: Threads + Sync>(
     threads: &R,
     rt: HostRuntime,
     id: u64,
-    settings: Config,
+    settings: NodeSettings,
 ) -> End {
     let input: io::Result<KnownLines<M, _>> = KnownLines::new(rt, id, rt.stdin());
     let Ok(mut input) = input else {
         return End::Memory;
     };
     let mut output = Answers::new(rt, rt.stdout());
+    let NodeSettings { log, timers } = settings;
     let home: DiskHome<M> = DiskHome {
         rt,
         id,
-        settings,
+        settings: log,
         of: PhantomData,
     };
-    let end = run_node_script(threads, rt.alloc(), id, home, &mut input, &mut output);
+    let end = run_node_script(
+        threads,
+        rt.alloc(),
+        id,
+        home,
+        timers,
+        &mut input,
+        &mut output,
+    );
     match (output.end, input.end) {
         (Some(end), _) => end,
         (None, Some(end)) => end,
@@ -87,12 +98,12 @@ fn run<M: ScriptMachine, R: Threads + Sync>(
     }
 }
 
-// The settings of the node's log, those of the file if there is one.
+// The settings of the node, those of the file if there is one.
 fn settings_at(
     rt: HostRuntime,
     directory: &str,
     file: Option<&str>,
-) -> Result<Config, SettingsFault> {
+) -> Result<NodeSettings, SettingsFault> {
     match file {
         Some(file) => settings_of_file(&rt, directory, file),
         None => settings_in(rt.alloc(), directory, ""),

@@ -1,9 +1,11 @@
-//! The settings of the node's log.
+//! The settings of a node: of its log, and of its groups' clocks.
 ghost use Rattle.std.specs.Prelude.{◌≡◌, IfOk, None, string_bytes};
 ghost use Rattle.raft_log_files.specs.Settings.{settings_fault, settings_of};
 
+use crate::timers::{TIMERS, timers_in};
 use raft_log_files::{ArgumentFault, Config, Error};
 use raft_log_records::ReadableSize;
+use raft_timers::{TimerConfig, TimerFault};
 use std::alloc::{AllocError, AllocFailed, Global};
 use std::io::Read;
 use std::{fs, io};
@@ -19,6 +21,15 @@ const PURGE_THRESHOLD: ReadableSize = ReadableSize(262_144);
 
 /// The file of settings has at most so many bytes (own).
 const MOST_BYTES: u64 = 65_536;
+
+/// The settings of a node (own).
+#[derive(Drop)]
+pub struct NodeSettings {
+    /// Those of its log.
+    pub log: Config,
+    /// Those of its groups' clocks.
+    pub timers: TimerConfig,
+}
 
 /// Why settings aren't taken (own).
 #[derive(Debug, Drop, Error)]
@@ -44,6 +55,9 @@ pub enum SettingsFault {
     /// No log can be kept under them.
     #[error("{0}")]
     Refused(Error),
+    /// No clock can run by them.
+    #[error("timers: {0}")]
+    Timers(TimerFault),
     /// Memory was refused.
     #[error("out of memory")]
     Memory,
@@ -86,7 +100,7 @@ fn check_names(table: &Table) -> Result<(), SettingsFault> {
         if matches!(name.as_str(), "dir" | "spill-dir") {
             return Err(SettingsFault::Place(name.clone()?));
         }
-        if !is_setting(name.as_str()) {
+        if name.as_str() != TIMERS && !is_setting(name.as_str()) {
             return Err(SettingsFault::Unknown(name.clone()?));
         }
     }
@@ -157,13 +171,17 @@ fn not_toml(alloc: Global, why: &toml::de::Error) -> Result<SettingsFault, Alloc
     Ok(SettingsFault::NotToml(text))
 }
 
-/// The settings that a text gives for a log in this directory (own): by `Config::from_toml` and
-/// `Config::sanitize`. A name that is no setting's is refused, and so are `dir` and `spill-dir`.
-/// What the text doesn't set is as raft-engine has it, but a file of 64 KiB and a cleaning past
-/// 256 KiB.
-pub fn settings_in(alloc: Global, directory: &str, text: &str) -> Result<Config, SettingsFault>
-    ensures fit { IfOk result (λ config. settings_fault (settings_of config) ≡ None) }
-    ensures directory { IfOk result (λ config. string_bytes config.dir ≡ directory.now) }
+/// The settings that a text gives for a node with its log in this directory (own): by
+/// `Config::from_toml` and `Config::sanitize`, and of its clocks by `timers_in`. A name that is no
+/// setting's is refused, and so are `dir` and `spill-dir`. What the text doesn't set is as raft-engine
+/// and raft_timers have it, but a file of 64 KiB and a cleaning past 256 KiB.
+pub fn settings_in(
+    alloc: Global,
+    directory: &str,
+    text: &str,
+) -> Result<NodeSettings, SettingsFault>
+    ensures fit { IfOk result (λ settings. settings_fault (settings_of settings.log) ≡ None) }
+    ensures directory { IfOk result (λ settings. string_bytes settings.log.dir ≡ directory.now) }
 {
     let table = match toml::table_from_str(alloc, text) {
         Ok(table) => table,
@@ -173,7 +191,9 @@ pub fn settings_in(alloc: Global, directory: &str, text: &str) -> Result<Config,
     check_names(&table)?;
     let mut config = config_in(alloc, text, &table)?;
     with_defaults(&mut config, &table);
-    in_directory(alloc, directory, config)
+    let log = in_directory(alloc, directory, config)?;
+    let timers = timers_in(alloc, &table)?;
+    Ok(NodeSettings { log, timers })
 }
 
 // The text of the file of a path, or as much of it as tells that it is too long.
@@ -191,9 +211,9 @@ pub fn settings_of_file(
     rt: &HostRuntime,
     directory: &str,
     path: &str,
-) -> Result<Config, SettingsFault>
-    ensures fit { IfOk result (λ config. settings_fault (settings_of config) ≡ None) }
-    ensures directory { IfOk result (λ config. string_bytes config.dir ≡ directory.now) }
+) -> Result<NodeSettings, SettingsFault>
+    ensures fit { IfOk result (λ settings. settings_fault (settings_of settings.log) ≡ None) }
+    ensures directory { IfOk result (λ settings. string_bytes settings.log.dir ≡ directory.now) }
 {
     match text_of_file(rt, path) {
         Ok(text) if text.len() as u64 > MOST_BYTES => Err(SettingsFault::TooLong),

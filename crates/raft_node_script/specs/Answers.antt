@@ -16,6 +16,10 @@ use Rattle.raft_node_faults.specs.declared.fault.Fault.{Fault}
 use Rattle.raft_node_faults.specs.declared.fault.Fault.TheVariants as fault
 use Rattle.raft_node_script.specs.Home.{label_of}
 use Rattle.raft_node_script.specs.declared.home.HomeRefusal.{HomeRefusal}
+use Rattle.raft_node_status.specs.Queues.{queues_text}
+use Rattle.raft_node_status.specs.Text.{status_text}
+use Rattle.raft_node_status.specs.declared.queues.LogStatus.{LogStatus}
+use Rattle.raft_node_status.specs.declared.status.GroupStatus.{GroupStatus}
 use Rattle.raft_script_answers.specs.Answer.{done_text as cluster_done_text, newline, refused_text}
 use Rattle.raft_script_answers.specs.declared.refusal.Refusal.TheVariants as shown
 
@@ -63,6 +67,10 @@ fault_text why = named_text why
 abbrev pub IsOneLineOf : List ℕ → List ℕ → List ℕ → Type 0
 IsOneLineOf first second text =
     (line : List ℕ) × (first ≡ line ++ newline) × (text ≡ line ++ codes "; " ++ second)
+
+-- what the node knows of a group, and the files of its storage
+abbrev pub known_text : GroupStatus → LogStatus → List ℕ
+known_text told log = status_text told ++ queues_text log ++ newline
 
 -- a storage that isn't opened
 abbrev pub unopened_text : HomeRefusal → List ℕ

@@ -1,6 +1,7 @@
 //! The text of what a node answers.
 ghost use Rattle.std.specs.Prelude.{◌≡◌, ◌++◌, IfOk, OnOk, [], drop, map, string_bytes};
-ghost use Rattle.raft_node_script.specs.Answers.{IsOneLineOf, cleaned_text, done_text, fault_text, frame_text, frames_text, named_text, sent_text, stop_text, told_text, unopened_text, without_frames};
+ghost use Rattle.raft_node_script.specs.Answers.{IsOneLineOf, cleaned_text, done_text, fault_text, frame_text, frames_text, known_text};
+ghost use Rattle.raft_node_script.specs.Answers.{named_text, sent_text, stop_text, told_text, unopened_text, without_frames};
 
 use crate::home::HomeRefusal;
 use itoa::Buffer;
@@ -8,6 +9,7 @@ use raft_cluster_events::{EventOutcome, GroupOutcome, Sequence, Stop, StopCause}
 use raft_cluster_script::{outcome_text, stop_text as cluster_stop_text};
 use raft_framed_groups::GroupFrame;
 use raft_node::{Fault, Outcome, UnknownTokens};
+use raft_node_status::{GroupStatus, LogStatus, queues_text, status_text};
 use raft_script_answers::{Refusal, done_text as cluster_done_text, refused_text};
 use raft_script_machines::ScriptMachine;
 use std::alloc::{AllocError, Global};
@@ -159,6 +161,17 @@ pub fn fed_text<M: ScriptMachine, F: Drop>(
     }
     let done = done_text::<M>(alloc, outcomes)?;
     on_one_line(alloc, done.as_str(), why.as_str())
+}
+
+/// What the node knows of a group, and the files of its storage (own).
+pub fn known_text(alloc: Global, told: &GroupStatus, log: &LogStatus) -> Result<String, AllocError>
+    ensures { IfOk result (λ text. string_bytes text ≡ known_text told.now log.now) }
+{
+    let mut text = status_text(alloc, told)?;
+    let queues = queues_text(alloc, log)?;
+    text.push_str(queues.as_str())?;
+    text.push_str("\n")?;
+    Ok(text)
 }
 
 /// Why a node's storage isn't opened (own).

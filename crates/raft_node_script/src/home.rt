@@ -5,6 +5,7 @@ ghost use Rattle.raft_node_script.specs.Home.{label_of};
 
 use raft_group_storage::GroupStorage;
 use raft_messages::SnapshotBytes;
+use raft_node_status::LogStatus;
 use raft_script_machines::ScriptMachine;
 use raft_storage_cleaning::CleanStorage;
 use std::thread::Threads;
@@ -53,4 +54,7 @@ pub trait NodeHome: Drop {
 
     /// The node has stopped: why its storage failed may be said somewhere.
     fn complain(&self, storage: &Self::Storage);
+
+    /// How many files the storage has, and how many bytes they take.
+    fn log_status(&self, storage: &Self::Storage) -> LogStatus;
 }

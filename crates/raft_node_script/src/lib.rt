@@ -3,6 +3,7 @@
 #![tactic(auto)]
 
 mod answers;
+mod clock;
 mod home;
 mod lines;
 mod run;

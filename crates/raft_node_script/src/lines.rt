@@ -1,4 +1,5 @@
-//! The lines of a node's script: those of a cluster's script without the node, `feed` and `status`.
+//! The lines of a node's script: those of a cluster's script without the node, `feed`, `status` and
+//! `tick`.
 
 use raft_cluster_events::{ClusterEvent, GroupCommand};
 use raft_cluster_script::{event_of, tokens_after};
@@ -17,6 +18,8 @@ pub enum NodeLine {
     Skipped,
     /// `now T`
     Now { tick: u64 },
+    /// `tick`: the moment rises by one, and all that is due then is asked of the node.
+    Tick,
     /// `total G`, where the machine adds up.
     Total { group: u64 },
     /// `status G`: what the node knows of the group.
@@ -202,6 +205,11 @@ pub fn read_node_line<M: ScriptMachine>(
             let line = feed_in(alloc, words)?;
             Ok(ReadNodeLine { line, tokens })
         }
+        ("tick", None) => Ok(ReadNodeLine {
+            line: NodeLine::Tick,
+            tokens,
+        }),
+        ("tick", Some(_)) => Err(NodeLineError::NoEvent(NoEvent::WrongCount)),
         ("status", words) => {
             let group = group_in(words)?;
             let line = NodeLine::Status { group };

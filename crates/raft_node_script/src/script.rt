@@ -1,37 +1,42 @@
 //! How far a node's script has come, and what its next line does.
 
-use crate::answers::{cleaned_text, done_text, fault_text, fed_text, unopened_text};
+use crate::answers::{cleaned_text, done_text, fault_text, fed_text, known_text, unopened_text};
+use crate::clock::NodeClocks;
 use crate::home::NodeHome;
 use crate::lines::{NodeLine, NodeLineError, ReadNodeLine, read_node_line};
 use raft_conditions::GroupCommand;
 use raft_group_storage::GroupStorage;
 use raft_node::{Fault, Fed, Node, NotOpened, Opened, Outcome};
-use raft_node_status::{group_status, status_text};
+use raft_node_status::group_status;
 use raft_script_answers::{AppliedTotal, Refusal, refused_text, total_text};
 use raft_script_machines::ScriptMachine;
 use raft_script_session::LineRunner;
+use raft_timers::TimerConfig;
 use std::alloc::{AllocError, Global};
 use std::thread::Threads;
 
 /// A node, and what was counted of its script (own).
 #[derive(Drop)]
 pub struct NodeScript<H: NodeHome> {
-    alloc: Global,
+    pub(crate) alloc: Global,
     id: u64,
     home: H,
-    node: Option<Node<H::Machine, H::Storage>>,
+    pub(crate) node: Option<Node<H::Machine, H::Storage>>,
+    pub(crate) clocks: NodeClocks,
     tokens: u64,
-    tick: u64,
+    pub(crate) tick: u64,
 }
 
 impl<H: NodeHome> NodeScript<H> {
-    /// Before the first line the node is down.
-    pub fn new(alloc: Global, id: u64, home: H) -> NodeScript<H> {
+    /// Before the first line the node is down. Its groups' clocks have these settings, and its id for
+    /// a seed.
+    pub fn new(alloc: Global, id: u64, home: H, timers: TimerConfig) -> NodeScript<H> {
         NodeScript {
             alloc,
             id,
             home,
             node: None,
+            clocks: NodeClocks::new(alloc, timers, id, 0),
             tokens: 0,
             tick: 0,
         }
@@ -46,6 +51,7 @@ impl<H: NodeHome> NodeScript<H> {
         };
         match Node::open(self.alloc, self.id, storage) {
             Ok(Opened { node, outcomes }) => {
+                self.clocks.restart(&node, self.tick)?;
                 self.node = Some(node);
                 done_text::<H::Machine>(self.alloc, outcomes)
             }
@@ -97,10 +103,13 @@ impl<H: NodeHome> NodeScript<H> {
             return self.down();
         };
         let answer = node.add_group(group);
+        if answer.is_ok() {
+            self.clocks.add(group, self.tick)?;
+        }
         self.answered(answer)
     }
 
-    fn ask(&mut self, group: u64, call: &GroupCommand) -> Result<String, AllocError> {
+    pub(crate) fn ask(&mut self, group: u64, call: &GroupCommand) -> Result<String, AllocError> {
         let Some(node) = &mut self.node else {
             return self.down();
         };
@@ -122,6 +131,7 @@ impl<H: NodeHome> NodeScript<H> {
         if let Some(Fault::Frame(_)) = &fault {
             let _ = node.reset_peer(peer);
         }
+        self.clocks.hear(node, peer, outcomes.as_slice(), self.tick);
         let Some(fault) = fault else {
             return done_text::<H::Machine>(self.alloc, outcomes);
         };
@@ -130,7 +140,7 @@ impl<H: NodeHome> NodeScript<H> {
     }
 
     // The log is cleaned, where it is time for that.
-    fn clean(&mut self) -> Result<String, AllocError> {
+    pub(crate) fn clean(&mut self) -> Result<String, AllocError> {
         let Some(node) = &mut self.node else {
             return self.down();
         };
@@ -152,13 +162,16 @@ impl<H: NodeHome> NodeScript<H> {
         Some(AppliedTotal { total, place })
     }
 
-    // What the node knows of the group.
+    // What the node knows of the group, and the files of its storage.
     fn status(&self, group: u64) -> Result<String, AllocError> {
         let Some(node) = &self.node else {
             return self.down();
         };
         match group_status(self.alloc, node, group)? {
-            Some(told) => status_text(self.alloc, &told),
+            Some(told) => {
+                let log = self.home.log_status(node.storage());
+                known_text(self.alloc, &told, &log)
+            }
             None if node.has_failed() => refused_text(self.alloc, Refusal::Failed, &[]),
             None => refused_text(self.alloc, Refusal::UnknownGroup, &[]),
         }
@@ -175,6 +188,7 @@ impl<H: NodeHome> NodeScript<H> {
         match line {
             NodeLine::Skipped => Ok(String::new(self.alloc)),
             NodeLine::Now { tick } => self.set_now(tick),
+            NodeLine::Tick => self.pass_tick(),
             NodeLine::Total { group } => self.total(group),
             NodeLine::Status { group } => self.status(group),
             NodeLine::Add { group } => self.add(group),

@@ -1,1 +1,2 @@
 mod MemberIds
+mod QueueLemmas

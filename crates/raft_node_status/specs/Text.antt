@@ -1,11 +1,11 @@
--- The line that tells a group's status.
+-- The text that tells a group's status.
 use Rattle.std.specs.Prelude.{ℕ, Bool, true, false, List, [], ◌++◌, Option, Some, option_map, codes}
 use Rattle.std.specs.List.{flat_map}
 use Rattle.std.specs.Fmt.{decimal}
 use Rattle.raft_values.specs.declared.log_id.LogId.{LogId}
 use Rattle.raft_values.specs.declared.server_state.ServerState.{ServerState}
 use Rattle.raft_values.specs.declared.server_state.ServerState.TheVariants.{Candidate, Follower, Leader, Learner, Shutdown}
-use Rattle.raft_script_answers.specs.Answer.{newline, number_or_dash}
+use Rattle.raft_script_answers.specs.Answer.{number_or_dash}
 use Rattle.raft_node_status.specs.declared.status.GroupStatus.{GroupStatus}
 use Rattle.raft_node_status.specs.declared.status.PeerStatus.{PeerStatus}
 
@@ -46,7 +46,7 @@ places_text told =
     ++ named_text (codes "applied") told.applied ++ named_text (codes "snapshot") (place_of told.snapshot)
     ++ named_text (codes "purged") (place_of told.purged)
 
--- a line: the part that the node plays, the votes, the places, the peers
+-- the part that the node plays, the votes, the places, the peers
 abbrev pub status_text : GroupStatus → List ℕ
 status_text told =
-    codes "status " ++ role_name told.role ++ votes_text told ++ places_text told ++ flat_map peer_text told.peers.items ++ newline
+    codes "status " ++ role_name told.role ++ votes_text told ++ places_text told ++ flat_map peer_text told.peers.items

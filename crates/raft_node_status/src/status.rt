@@ -81,8 +81,9 @@ fn ids_but(alloc: Global, own: u64, nodes: &[(u64, BasicNode)]) -> Result<Vec<u6
     Ok(ids)
 }
 
-// The ids of all other nodes of the membership in force.
-fn other_ids<M: StateMachine, S: GroupStorage<Snapshot = SnapshotBytes>>(
+/// The ids of all other nodes of the membership in force, by rising id (own); none where the group
+/// isn't there. An `Err` is want of memory.
+pub fn other_ids<M: StateMachine, S: GroupStorage<Snapshot = SnapshotBytes>>(
     alloc: Global,
     node: &Node<M, S>,
     group: u64,

@@ -1,10 +1,12 @@
-//! The line that tells a group's status.
+//! The text that tells a group's status, and that of the log behind it.
 ghost use Rattle.std.specs.Prelude.{◌≡◌, ◌++◌, [], IfOk, OnOk, string_bytes};
 ghost use Rattle.std.specs.List.{flat_map};
 ghost use Rattle.std.specs.Fmt.{decimal};
 ghost use Rattle.raft_script_answers.specs.Answer.{number_or_dash};
+ghost use Rattle.raft_node_status.specs.Queues.{queue_text, queues_text};
 ghost use Rattle.raft_node_status.specs.Text.{named_text, peer_text, place_of, places_text, role_name, status_text, votes_text, wait_text};
 
+use crate::queues::{LogStatus, QueueStatus};
 use crate::status::{GroupStatus, PeerStatus};
 use itoa::Buffer;
 use raft_state::{LogId, ServerState};
@@ -101,9 +103,9 @@ fn push_places(text: &mut String, told: &GroupStatus) -> Result<(), AllocError>
     push_named(text, "purged", place_of(told.purged))
 }
 
-/// The line, with its newline (own): `status PART term T vote NODE leader NODE last P committed P
+/// What a status line says of the group (own): `status PART term T vote NODE leader NODE last P committed P
 /// applied P snapshot P purged P`, then `PEER:P` for each peer of a leader, with a `+` where a request
-/// to it waits. What there is none of is `-`. An `Err` is want of memory.
+/// to it waits. What there is none of is `-`. An `Err` is want of memory. No newline ends it.
 pub fn status_text(alloc: Global, told: &GroupStatus) -> Result<String, AllocError>
     ensures { IfOk result (λ text. string_bytes text ≡ status_text told.now) }
 {
@@ -112,6 +114,28 @@ pub fn status_text(alloc: Global, told: &GroupStatus) -> Result<String, AllocErr
     push_votes(&mut text, told)?;
     push_places(&mut text, told)?;
     push_peers(&mut text, told.peers.as_slice())?;
-    text.push_str("\n")?;
+    Ok(text)
+}
+
+// The text, and a queue with its name behind it.
+fn push_queue(text: &mut String, name: &str, queue: QueueStatus) -> Result<(), AllocError>
+    ensures { OnOk result (string_bytes text.new ≡ string_bytes text.old ++ queue_text name.now queue) }
+{
+    text.push_str(" ")?;
+    text.push_str(name)?;
+    text.push_str(" ")?;
+    push_number(text, queue.files)?;
+    text.push_str(" ")?;
+    push_number(text, queue.bytes)
+}
+
+/// What a status line says of the log behind that (own): ` append FILES BYTES rewrite FILES BYTES`.
+/// An `Err` is want of memory.
+pub fn queues_text(alloc: Global, log: &LogStatus) -> Result<String, AllocError>
+    ensures { IfOk result (λ text. string_bytes text ≡ queues_text log.now) }
+{
+    let mut text = String::new(alloc);
+    push_queue(&mut text, "append", log.append)?;
+    push_queue(&mut text, "rewrite", log.rewrite)?;
     Ok(text)
 }

@@ -1,9 +1,9 @@
 -- The scripts of the key-value machine: `put`, `get` and `drop`, and answers that are values.
 use Rattle.std.specs.Prelude.{ℕ, Bool, true, false, ◌==◌, List, [], ◌∷◌, Option, Some, None, if◌then◌else◌, codes}
 use Rattle.std.specs.Str.{is_utf8}
-use Rattle.raft_kv.specs.declared.command.KvCommand.{KvCommand}
-use Rattle.raft_kv.specs.declared.command.KvCommand.TheVariants.{Put, Get, Drop}
-use Rattle.raft_kv.specs.Command.{fault_of_command, spelled_command}
+use Rattle.raft_wire.specs.declared.kv.KvCommand.{KvCommand}
+use Rattle.raft_wire.specs.declared.kv.KvCommand.TheVariants.{Put, Get, Drop}
+use Rattle.raft_wire.specs.Kv.{fault_of_command, spelled_command}
 use Rattle.raft_machines.specs.declared.telling.Told.{Told}
 use Rattle.raft_script_answers.specs.Answer.{full_text, value_text}
 use Rattle.raft_script_lines.specs.declared.script_line.ScriptEvent.{ScriptEvent}

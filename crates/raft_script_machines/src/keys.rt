@@ -1,6 +1,6 @@
 //! The key-value machine in scripts.
 ghost use Rattle.std.specs.Prelude.{◌≡◌, ◌++◌, IfOk, OnOk, string_bytes};
-ghost use Rattle.raft_kv.specs.declared.command.KvCommand.TheVariants.{Put, Get, Drop};
+ghost use Rattle.raft_wire.specs.declared.kv.KvCommand.TheVariants.{Put, Get, Drop};
 ghost use Rattle.raft_script_answers.specs.Answer.{value_text};
 ghost use Rattle.raft_script_machines.specs.Keys.{keys, spelled, text_of, value_in};
 

@@ -8,6 +8,7 @@ ghost use Rattle.std.specs.Result.{result_err};
 use raft_log_records::RecordError;
 use raft_wire::{FrameError, FrameFault};
 use std::alloc::{AllocError, AllocFailed};
+use std::fmt;
 use thiserror::Error;
 
 /// Why the store itself refuses a call (own). Nothing was written then.
@@ -82,11 +83,14 @@ impl From<FrameError> for StoreRefusal {
 }
 
 /// Why a store's call fails (own).
-#[derive(Debug, Drop)]
+#[derive(Debug, Drop, Error)]
+#[error_bound(F: fmt::Display)]
 pub enum StoreFault<F> {
     /// The log failed, and the store with it.
+    #[error("the log failed: {0}")]
     Log(F),
     /// The store refused it.
+    #[error("the store refused it: {0}")]
     Refused(StoreRefusal),
 }
 

@@ -2,7 +2,8 @@
 
 use crate::texts::print_texts;
 use raft_content_log::PlainFault;
-use raft_log_disk::IoFault;
+use raft_disk_uses::RestartFault;
+use raft_log_disk::{CrashRefusal, HeaderFault, IoFault};
 use raft_log_engine::EngineFault;
 use raft_log_files::Error;
 use raft_log_memtables::FetchError;
@@ -19,7 +20,24 @@ fn print_records(rt: &impl Print) -> io::Result<()> {
             RecordError::Corruption(RecordFault::BadTag),
         ],
     )?;
-    print_texts(rt, "WriteError", &[WriteError::Memory, WriteError::TooLong])
+    print_texts(rt, "WriteError", &[WriteError::Memory, WriteError::TooLong])?;
+    print_texts(
+        rt,
+        "RecordFault",
+        &[
+            RecordFault::CutShort,
+            RecordFault::ItemsCutShort,
+            RecordFault::BadLength,
+            RecordFault::BadOffset,
+            RecordFault::ItemsChecksum,
+            RecordFault::BadTag,
+            RecordFault::NotConsecutive,
+            RecordFault::EmptyKey,
+            RecordFault::TrailingBytes,
+            RecordFault::EntriesLength,
+            RecordFault::EntriesChecksum,
+        ],
+    )
 }
 
 fn print_disk(rt: &impl Print) -> io::Result<()> {
@@ -31,6 +49,32 @@ fn print_disk(rt: &impl Print) -> io::Result<()> {
             IoFault::NoSpace,
             IoFault::Refused,
             IoFault::Memory,
+        ],
+    )?;
+    print_texts(
+        rt,
+        "HeaderFault",
+        &[
+            HeaderFault::CutShort,
+            HeaderFault::NoHeader,
+            HeaderFault::BadVersion,
+        ],
+    )?;
+    print_texts(
+        rt,
+        "CrashRefusal of files",
+        &[
+            CrashRefusal::NotAnImage,
+            CrashRefusal::ByChance,
+            CrashRefusal::Memory,
+        ],
+    )?;
+    print_texts(
+        rt,
+        "RestartFault",
+        &[
+            RestartFault::Crash(CrashRefusal::NotAnImage),
+            RestartFault::Read(IoFault::Refused),
         ],
     )
 }

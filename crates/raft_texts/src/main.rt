@@ -2,6 +2,7 @@
 //! other program prints.
 #![tactic(auto)]
 
+mod faults;
 mod groups;
 mod log_files;
 mod logs;
@@ -16,5 +17,6 @@ fn main(rt: HostRuntime) -> io::Result<()> {
     logs::print(&rt)?;
     log_files::print(&rt)?;
     nodes::print(&rt)?;
+    faults::print(&rt, rt.alloc())?;
     values::print(&rt, rt.alloc())
 }

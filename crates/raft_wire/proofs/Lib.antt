@@ -4,6 +4,7 @@ pub mod Values
 pub mod Texts
 pub mod Rising
 pub mod Whole
+pub mod KvReading
 pub mod Joins
 pub mod Lengths
 pub mod Bodies

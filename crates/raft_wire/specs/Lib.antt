@@ -4,6 +4,7 @@ pub mod Reader
 pub mod Fields
 pub mod Memberships
 pub mod Entries
+pub mod Kv
 pub mod Writing
 pub mod Bodies
 pub mod Frames

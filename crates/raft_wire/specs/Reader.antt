@@ -1,6 +1,6 @@
 -- Reading from left to right: a reader answers the value at the front of the bytes and the bytes behind it, or the
 -- first fault.
-use Rattle.std.specs.Prelude.{◌≡◌, ℕ, zero, suc, Bool, ◌==◌, List, [], ◌∷◌, length, take, drop}
+use Rattle.std.specs.Prelude.{◌≡◌, ℕ, zero, suc, Bool, not, ◌==◌, List, [], ◌∷◌, length, take, drop}
 use Rattle.std.specs.Prelude.{Option, None, Result, Ok, Err, nat_lt, if◌then◌else◌}
 use Rattle.std.specs.Int.{Width, w32}
 pub use Rattle.raft_bytes.specs.Bytes.{◌>>=◌}
@@ -82,6 +82,13 @@ unfoldable pub text_at : ℕ → Reader (List ℕ)
 text_at limit bytes = do
   n ← count_at limit bytes
   piece_at n.0 n.1
+
+-- such a text of at least one byte: a length of 0 is cut short
+abbrev pub has_bytes : List ℕ → Bool
+has_bytes bytes = not (length bytes == 0)
+
+unfoldable pub filled_at : ℕ → Reader (List ℕ)
+filled_at limit = tested fault.CutShort has_bytes (text_at limit)
 
 -- a value that takes all of the bytes
 unfoldable pub all_of : {A : Type 0} → Reader A → List ℕ → Result A FrameFault

@@ -1,7 +1,7 @@
 //! Numbers, flags, votes and log ids, read from the front of bytes and written behind others.
 ghost use Rattle.std.specs.Prelude.{◌≡◌, ◌++◌, ◌<◌, ◌^◌, length, OnOk};
 ghost use Rattle.std.specs.Int.{w32, w64, to_be_bytes};
-ghost use Rattle.raft_wire.specs.Reader.{Gives, number_at, byte_at, piece_at, count_at, text_at};
+ghost use Rattle.raft_wire.specs.Reader.{Gives, number_at, byte_at, piece_at, count_at, text_at, filled_at};
 ghost use Rattle.raft_wire.specs.Fields.{spelled_flag, spelled_vote, spelled_log_id, spelled_last};
 ghost use Rattle.raft_wire.specs.Fields.{flag_at, vote_at, log_id_at, last_at, option_at, FitsVote, FitsLogId, FitsLast};
 ghost use Rattle.raft_wire.specs.Entries.{spelled_text};
@@ -55,9 +55,10 @@ pub(crate) fn piece_of(len: usize, bytes: &[u8]) -> Result<(&[u8], &[u8]), Frame
     Ok((piece, rest))
 }
 
-// A count or length of four bytes, up to a limit.
+/// The count or length at the front, in four bytes, the greatest first, and the bytes behind it (own).
+/// Refused are fewer than four bytes (`CutShort`), and a count above the limit (`TooLong`).
 #[tactic(auto, unfolding(crate::specs::Reader::count_at))]
-pub(crate) fn count_of(limit: usize, bytes: &[u8]) -> Result<(u32, &[u8]), FrameError>
+pub fn count_of(limit: usize, bytes: &[u8]) -> Result<(u32, &[u8]), FrameError>
     ensures { Gives (λ x. (x.0, x.1.now)) result (count_at limit bytes.now) }
 {
     let (count, rest) = u32_at(bytes)?;
@@ -74,6 +75,19 @@ pub(crate) fn text_of(limit: usize, bytes: &[u8]) -> Result<(&[u8], &[u8]), Fram
 {
     let (len, rest) = count_of(limit, bytes)?;
     piece_of(len as usize, rest)
+}
+
+/// A text at the front behind its length in four bytes, lent, and the bytes behind it (own). Refused
+/// are want of bytes and a length of 0 (`CutShort`), and a length above the limit in bytes (`TooLong`).
+#[tactic(auto, unfolding(crate::specs::Reader::filled_at))]
+pub fn filled_of(limit: usize, bytes: &[u8]) -> Result<(&[u8], &[u8]), FrameError>
+    ensures { Gives (λ x. (x.0.now, x.1.now)) result (filled_at limit bytes.now) }
+{
+    let (text, rest) = text_of(limit, bytes)?;
+    if text.is_empty() {
+        return Err(FrameError::Fault(FrameFault::CutShort));
+    }
+    Ok((text, rest))
 }
 
 #[tactic(auto, unfolding(crate::specs::Fields::flag_at))]
@@ -140,14 +154,18 @@ pub(crate) fn put_u64(out: &mut Vec<u8>, number: u64) -> Result<(), AllocError>
     out.extend_from_slice(&number.to_be_bytes())
 }
 
-pub(crate) fn put_count(out: &mut Vec<u8>, count: usize) -> Result<(), AllocError>
+/// Writes a count or length in four bytes, the greatest first, behind others (own). It fails for want
+/// of memory alone.
+pub fn put_count(out: &mut Vec<u8>, count: usize) -> Result<(), AllocError>
     requires { count < 2 ^ 32 }
     ensures { OnOk result (out.new.items ≡ out.old.items ++ to_be_bytes w32 count) }
 {
     out.extend_from_slice(&(count as u32).to_be_bytes())
 }
 
-pub(crate) fn put_text(out: &mut Vec<u8>, bytes: &[u8]) -> Result<(), AllocError>
+/// Writes bytes behind their length in four bytes, behind others (own). It fails for want of memory
+/// alone, and may leave a part of them then.
+pub fn put_text(out: &mut Vec<u8>, bytes: &[u8]) -> Result<(), AllocError>
     requires { length bytes.now < 2 ^ 32 }
     ensures { OnOk result (out.new.items ≡ out.old.items ++ spelled_text bytes.now) }
 {

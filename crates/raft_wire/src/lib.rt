@@ -1,4 +1,4 @@
-//! The bytes of stored entries and of the frames between nodes.
+//! The bytes of stored entries, of the frames between nodes, and of a key-value machine's commands.
 #![tactic(auto)]
 
 mod entries;
@@ -6,6 +6,7 @@ mod error;
 mod feeder;
 mod fields;
 mod frame;
+mod kv;
 mod laws;
 mod memberships;
 mod reading;
@@ -16,7 +17,9 @@ mod writing;
 pub use entries::{read_entry, write_entry};
 pub use error::{FrameError, FrameFault};
 pub use feeder::{Fed, Feeder, MAX_FRAME_LEN, MAX_IDLE_ROOM, MIN_FRAME_LEN};
+pub use fields::{count_of, filled_of, put_count, put_text};
 pub use frame::{Frame, FrameKind};
+pub use kv::{KvCommand, MAX_KEY_BYTES, MAX_VALUE_BYTES, read_kv, write_kv};
 pub use laws::{
     cuts_do_not_matter, feeders_wait_only_so_long, found_frames_are_spelled_so, found_stays,
     frames_are_short, no_spelling_begins_another, refused_streams_begin_no_frame,

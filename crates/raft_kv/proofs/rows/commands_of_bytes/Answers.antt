@@ -1,8 +1,7 @@
 -- What is read, byte by byte.
 use Rattle.std.proofs.Common.{refl}
-use Rattle.raft_wire.specs.Reader.{all_of, count_at, piece_at, text_at}
-use Rattle.raft_kv.specs.Command.{command_at}
-use Rattle.raft_kv.specs.Fields.{filled_at}
+use Rattle.raft_wire.specs.Reader.{all_of, count_at, piece_at, text_at, filled_at}
+use Rattle.raft_wire.specs.Kv.{command_at}
 use Rattle.raft_kv.proofs.rows.commands_of_bytes.Goals as goal
 
 pub returns-clause-put : goal.returns-clause-put

@@ -1,7 +1,6 @@
 -- What is restored, byte by byte; of other bytes the empty map is spelled.
 use Rattle.std.proofs.Common.{refl}
-use Rattle.raft_wire.specs.Reader.{all_of, count_at, counted_at, many_at, piece_at, text_at}
-use Rattle.raft_kv.specs.Fields.{filled_at}
+use Rattle.raft_wire.specs.Reader.{all_of, count_at, counted_at, many_at, piece_at, text_at, filled_at}
 use Rattle.raft_kv.specs.Map.{pair_at, pairs_at}
 use Rattle.raft_kv.proofs.RowLemmas.{no_pairs_spelled}
 use Rattle.raft_kv.proofs.rows.restored_bytes.Goals as goal

@@ -1,9 +1,8 @@
 -- Each answer by the value before its place.
 use Rattle.std.proofs.Common.{refl, ◌∙◌, arith}
 use Rattle.std.specs.Prelude.{Some, None, codes}
-use Rattle.raft_wire.specs.Reader.{all_of, count_at, piece_at, text_at}
-use Rattle.raft_kv.specs.Command.{command_at}
-use Rattle.raft_kv.specs.Fields.{filled_at}
+use Rattle.raft_wire.specs.Reader.{all_of, count_at, piece_at, text_at, filled_at}
+use Rattle.raft_wire.specs.Kv.{command_at}
 use Rattle.raft_kv_reading.specs.Rows.{apple, letter_b, two_keys}
 use Rattle.raft_kv_reading.proofs.RowLemmas.{drop_row, get_row, put_row, value_of_few}
 use Rattle.raft_kv_reading.proofs.Telling.{answers_tell}

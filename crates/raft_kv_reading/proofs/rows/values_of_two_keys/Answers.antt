@@ -1,8 +1,7 @@
 -- The changes of a key among few entries, read from the list.
 use Rattle.std.proofs.Common.{refl, ◌∙◌, arith}
-use Rattle.raft_wire.specs.Reader.{all_of, count_at, piece_at, text_at}
-use Rattle.raft_kv.specs.Command.{command_at}
-use Rattle.raft_kv.specs.Fields.{filled_at}
+use Rattle.raft_wire.specs.Reader.{all_of, count_at, piece_at, text_at, filled_at}
+use Rattle.raft_wire.specs.Kv.{command_at}
 use Rattle.raft_kv_reading.specs.Rows.{apple, letter_b, two_keys}
 use Rattle.raft_kv_reading.proofs.RowLemmas.{value_of_few}
 use Rattle.raft_kv_reading.proofs.rows.values_of_two_keys.Goals as goal

@@ -1,6 +1,6 @@
 use Rattle.std.proofs.Common.{◌≡◌, ◌∙◌, ℕ, Bool, List, false, cond, ap, sym, subst}
 use Rattle.std.specs.FinMap as finite
-use Rattle.raft_kv.specs.Fields.{IsKey, IsValue}
+use Rattle.raft_wire.specs.Kv.{IsKey, IsValue}
 use Rattle.raft_kv.specs.Machine.{is_full_for}
 use Rattle.raft_kv.specs.Map.{Map, map_of}
 use Rattle.raft_kv.proofs.Maps.{insert_of}

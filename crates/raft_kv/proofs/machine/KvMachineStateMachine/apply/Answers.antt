@@ -1,6 +1,6 @@
 use Rattle.std.proofs.Common.{◌≡◌, ◌∙◌, Ok, ap, sym}
 use Rattle.raft_wire.specs.Reader.{all_of}
-use Rattle.raft_kv.specs.Command.{command_at}
+use Rattle.raft_wire.specs.Kv.{command_at}
 use Rattle.raft_kv.specs.Machine.{after_command, answer_in, answer_to, state_after, state_of}
 use Rattle.raft_kv.specs.Map.{Map, map_in, spelled_map}
 use Rattle.raft_kv.proofs.Maps.{state_map, tree_state}

@@ -1,0 +1,4 @@
+mod EachHeard
+mod Memberships
+mod Quorums
+mod Waiting

@@ -1,0 +1,4 @@
+pub mod Clock
+pub mod Heard
+pub mod Quorum
+pub mod View
