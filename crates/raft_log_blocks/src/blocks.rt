@@ -1,9 +1,8 @@
 //! Entries and their blocks.
 
 ghost use Rattle.std.specs.Prelude.{◌≡◌, IfErr, IfOk};
-ghost use Rattle.raft_log_blocks.specs.Blocks.{HasBlock, IsReadAs, StandsWhole};
-ghost use Rattle.raft_log_blocks.specs.Placed.{bytes_on};
-ghost use Rattle.raft_log_blocks.specs.Unread.{IsEntryUnread, IsUnread};
+ghost use Rattle.raft_log_blocks.specs.Blocks.{IsReadAs, StandsWhole};
+ghost use Rattle.raft_log_blocks.specs.Unread.{IsUnread};
 ghost use Rattle.raft_log_files.specs.declared.error.Error.TheVariants.{Memory};
 ghost use Rattle.raft_log_pipes.specs.Pipes.{ArePipes};
 ghost use Rattle.raft_log_records.specs.Item.{entry_bytes};
@@ -49,25 +48,4 @@ pub fn copy_in(alloc: Global, entries: &[u8], place: EntryIndex) -> Result<Vec<u
     ensures err { IfErr result (λ error. error ≡ Memory) }
 {
     Ok(Vec::from_slice(alloc, bytes_of(entries, place))?)
-}
-
-/// A copy of an entry's bytes, from its block in its file (own): as a cleaning takes them, which
-/// comes to each block once.
-#[tactic(auto, using(crate::proofs::EntryReads::entry_read))]
-pub fn read_placed_entry<F: FileSystem>(
-    alloc: Global,
-    files: &F,
-    pipes: &DualPipes,
-    place: EntryIndex,
-) -> Result<Vec<u8>, Error>
-    requires pipes { ArePipes pipes.now (F.disk files.now) }
-    requires block { HasBlock (F.disk files.now) pipes.now place }
-    ensures copied { IfOk result (λ v. v.items ≡ bytes_on (F.disk files.now) pipes.now place) }
-    ensures err { IfErr result (λ error. IsEntryUnread (F.disk files.now) pipes.now (F.meter files.now) place error) }
-{
-    let Some(handle) = place.entries else {
-        return Err(Error::EntryNotFound);
-    };
-    let entries = read_block(files, pipes, handle)?;
-    copy_in(alloc, &entries, place)
 }

@@ -2,5 +2,7 @@
 #![tactic(auto)]
 
 mod blocks;
+mod last;
 
-pub use blocks::{copy_in, read_block, read_placed_entry};
+pub use blocks::{copy_in, read_block};
+pub use last::LastBlock;

@@ -23,13 +23,14 @@ pub record AreSoManyKeys (value : List ℕ → Option (List ℕ)) (t : Trace) (c
   pub all : AreKeysBetween value None None pairs
   pub is : count ≡ count_stored t pairs
 
--- So many entries and keys of a group stand in the rewrite queue. An entry at the greatest index isn't counted: it is never rewritten
+-- So much of a group counts in the rewrite queue: its entries and keys that stand there, a Clean and a Compact. An entry at the greatest
+-- index isn't counted: it is never rewritten
 pub record AreLiveOf (g : GroupContent EntryIndex) (t : Trace) (count : ℕ) : Type 0 where
   pub entries : ℕ
   pub keys : ℕ
   pub of_entries : AreSoMany is_rewritten g.entry entries
   pub of_keys : AreSoManyKeys g.value t keys
-  pub is : count ≡ entries + keys
+  pub is : count ≡ entries + keys + 2
 
 -- of these groups
 abbrev pub AreLiveIn : TracedTables → List ℕ → ℕ → Type 0
@@ -37,7 +38,7 @@ AreLiveIn log [] count = count ≡ 0
 AreLiveIn log (group ∷ groups) count =
     (own : ℕ) × (rest : ℕ) × AreLiveOf (content_in log.tables group) (traces_in log.traces group) own × AreLiveIn log groups rest × (count ≡ own + rest)
 
--- So many entries and keys of all groups stand in the rewrite queue: what counts of it. A count stays at 2^64 - 1
+-- So much of all groups counts in the rewrite queue: what it has once it is written anew. A count stays at 2^64 - 1
 pub record AreLive (log : TracedTables) (count : ℕ) : Type 0 where
   pub groups : List ℕ
   pub rising : IsStrictlySortedBy nat_cmp groups

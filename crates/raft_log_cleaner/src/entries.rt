@@ -15,7 +15,7 @@ ghost use Rattle.raft_log_traces.specs.GroupTraces.{traces_in};
 
 use crate::fault::{of_fetch, of_mark, of_record};
 use crate::writer::{MOST_BATCH_BYTES, Writer};
-use raft_log_blocks::read_placed_entry;
+use raft_log_blocks::LastBlock;
 use raft_log_files::{Error, FileSystem};
 use raft_log_memtables::MemTables;
 use raft_log_pipes::DualPipes;
@@ -33,7 +33,7 @@ pub(crate) fn as_index(index: u128) -> u64
     index.min(u64::MAX as u128) as u64
 }
 
-/// Copies of entries, from their blocks.
+/// Copies of entries, from their blocks, each of which is read once where its entries follow one another.
 fn copies_of<F: FileSystem>(
     alloc: Global,
     files: &F,
@@ -45,9 +45,10 @@ fn copies_of<F: FileSystem>(
     ensures copied { IfOk result (λ copies. payloads copies.items ≡ map (bytes_on (F.disk files.now) pipes.now) places.now) }
     ensures cause { IfErr result (λ e. IsCleaningFault (F.meter files.now) (F.meter files.now) e) }
 {
+    let mut last = LastBlock::new(alloc);
     let mut copies = Vec::new(alloc);
     for place in places {
-        copies.push(read_placed_entry(alloc, files, pipes, *place)?)?;
+        copies.push(last.read_entry(alloc, files, pipes, *place)?)?;
     }
     Ok(copies)
 }

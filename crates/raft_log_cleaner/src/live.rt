@@ -13,6 +13,9 @@ use raft_log_traced::TracedTables;
 use raft_log_traces::GroupTraces;
 use std::alloc::AllocError;
 
+/// Of a group that is written anew: a Clean and a Compact.
+const GROUP_MARKS: u128 = 2;
+
 /// No append file has a lesser number.
 const FIRST_FILE: u64 = 1;
 
@@ -59,14 +62,14 @@ fn stored_keys(log: &TracedTables, group: u64) -> Result<u64, AllocError>
     Ok(stored_among(&log.traces, group, &found))
 }
 
-/// How many entries and keys of a group stand in the rewrite queue.
+/// How many entries and keys of a group stand in the rewrite queue, and its two marks there.
 fn live_in(log: &TracedTables, group: u64) -> Result<u128, AllocError>
     requires { TellEntries (traces_in log.now.traces) (content_in log.now.tables) }
     ensures { IfOk result (AreLiveOf (content_in log.now.tables group) (traces_in log.now.traces group)) }
 {
     let entries = rewritten_of(log, group);
     let keys = stored_keys(log, group)?;
-    Ok(entries as u128 + keys as u128)
+    Ok(entries as u128 + keys as u128 + GROUP_MARKS)
 }
 
 /// So many and so many more, up to the greatest count.
@@ -77,8 +80,8 @@ fn sum_of(before: u64, more: u128) -> u64
     sum.min(u64::MAX as u128) as u64
 }
 
-/// How many entries and keys of all groups stand in the rewrite queue. The only error is want of
-/// memory.
+/// How many entries and keys of all groups stand in the rewrite queue, and two marks of each group
+/// (own): so much it has once it is written anew. The only error is want of memory.
 pub fn live_of(log: &TracedTables) -> Result<u64, AllocError>
     requires { TellEntries (traces_in log.now.traces) (content_in log.now.tables) }
     ensures { IfOk result (AreLive log.now) }

@@ -22,7 +22,7 @@ pub struct QueueFiles {
 /// What was written to the rewrite queue.
 #[derive(Clone, Copy, PartialEq, Eq)]
 pub struct Rewritten {
-    /// How many entries and keys were written to it, since it was last written anew.
+    /// How many entries, keys and marks were written to it, since it was last written anew.
     pub written: u64,
     /// How many of them still count.
     pub live: u64,

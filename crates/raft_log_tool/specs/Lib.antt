@@ -1,6 +1,7 @@
 pub mod Command
 pub mod Content
 pub mod Lines
+pub mod Repairs
 pub mod Sizes
 pub mod Span
 pub mod Status

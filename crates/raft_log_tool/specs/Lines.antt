@@ -90,6 +90,12 @@ ending_text id Room to size = file_text id ++ named (codes " room from ") to ++ 
 ending_text id (Fault fault) to size =
     file_text id ++ named (codes " fault at ") to ++ named (codes " of ") size ++ codes " " ++ fault_name fault ++ newline
 
+-- where a file is cut, where that is not its end
+abbrev pub cut_text : FileId → Ending → ℕ → ℕ → List ℕ
+cut_text id Whole to size = []
+cut_text id Room to size = codes "cut " ++ ending_text id Room to size
+cut_text id (Fault fault) to size = codes "cut " ++ ending_text id (Fault fault) to size
+
 -- a check tells of a file that ended so: of room only where another file follows, since an opening cuts the last one there
 abbrev pub is_finding : Ending → Bool → Bool
 is_finding Whole is_last = false

@@ -1,7 +1,9 @@
 //! What the arguments ask for.
 ghost use Rattle.std.specs.Prelude.{◌≡◌, ◌≢◌, [], ◌∷◌, IfOk, IfErr, IfSome, IsNone, map, string_bytes};
-ghost use Rattle.raft_log_tool.specs.Command.{IsWrong, verb_text, words_of};
+ghost use Rattle.raft_log_files.specs.declared.recovery.RecoveryMode.{RecoveryMode};
+ghost use Rattle.raft_log_tool.specs.Command.{IsWrong, mode_text, verb_text, words_of};
 
+use raft_log_files::RecoveryMode;
 use thiserror::Error;
 
 /// What the program is asked for, on a directory of log files (own).
@@ -18,7 +20,16 @@ pub enum Command<'a> {
     /// Bytes by group.
     Sizes(&'a str),
     /// A copy of what an opening finds.
-    Copy { directory: &'a str, target: &'a str },
+    Copy {
+        directory: &'a str,
+        target: &'a str,
+    },
+    /// A copy that is cut as an opening by this mode would cut it.
+    Repair {
+        directory: &'a str,
+        target: &'a str,
+        mode: RecoveryMode,
+    },
 }
 
 /// Why arguments ask for nothing (own).
@@ -36,6 +47,12 @@ pub enum CommandError {
     /// Behind the directory no target is named.
     #[error("a target is missing")]
     NoTarget,
+    /// Behind the target no mode is named.
+    #[error("a mode is missing")]
+    NoMode,
+    /// The last one is no mode's name.
+    #[error("no such mode")]
+    UnknownMode,
     /// More stands behind what a command needs.
     #[error("there are too many arguments")]
     TooMany,
@@ -50,6 +67,7 @@ pub(crate) enum Verb {
     Span,
     Sizes,
     Copy,
+    Repair,
 }
 
 fn verb_in(word: &str) -> Option<Verb>
@@ -63,6 +81,20 @@ fn verb_in(word: &str) -> Option<Verb>
         "span" => Some(Verb::Span),
         "sizes" => Some(Verb::Sizes),
         "copy" => Some(Verb::Copy),
+        "repair" => Some(Verb::Repair),
+        _ => None,
+    }
+}
+
+// The mode of a name, as the settings spell it.
+fn mode_in(word: &str) -> Option<RecoveryMode>
+    ensures some { IfSome result (λ mode. mode_text mode ≡ word.now) }
+    ensures none { IsNone result → (mode : RecoveryMode) → mode_text mode ≢ word.now }
+{
+    match word {
+        "absolute-consistency" => Some(RecoveryMode::AbsoluteConsistency),
+        "tolerate-corrupted-tail-records" => Some(RecoveryMode::TolerateTailCorruption),
+        "tolerate-any-corruption" => Some(RecoveryMode::TolerateAnyCorruption),
         _ => None,
     }
 }
@@ -89,7 +121,7 @@ fn of_directory(verb: Verb, directory: &str) -> Result<Command<'_>, CommandError
         Verb::Check => Ok(Command::Check(directory)),
         Verb::Span => Ok(Command::Span(directory)),
         Verb::Sizes => Ok(Command::Sizes(directory)),
-        Verb::Copy => Err(CommandError::NoTarget),
+        Verb::Copy | Verb::Repair => Err(CommandError::NoTarget),
     }
 }
 
@@ -100,6 +132,30 @@ fn of_both<'a>(verb: Verb, directory: &'a str, target: &'a str) -> Result<Comman
 {
     match verb {
         Verb::Copy => Ok(Command::Copy { directory, target }),
+        Verb::Repair => Err(CommandError::NoMode),
+        _ => Err(CommandError::TooMany),
+    }
+}
+
+// The command of a verb with a directory, a target and a mode behind it.
+fn of_mode<'a>(
+    verb: Verb,
+    directory: &'a str,
+    target: &'a str,
+    word: &str,
+) -> Result<Command<'a>, CommandError>
+    ensures ok { IfOk result (λ command. words_of command ≡ verb_text verb ∷ directory.now ∷ target.now ∷ word.now ∷ []) }
+    ensures err { IfErr result (λ why. IsWrong why (verb_text verb ∷ directory.now ∷ target.now ∷ word.now ∷ [])) }
+{
+    match verb {
+        Verb::Repair => match mode_in(word) {
+            Some(mode) => Ok(Command::Repair {
+                directory,
+                target,
+                mode,
+            }),
+            None => Err(CommandError::UnknownMode),
+        },
         _ => Err(CommandError::TooMany),
     }
 }
@@ -119,6 +175,9 @@ pub fn read_command(words: &[String]) -> Result<Command<'_>, CommandError>
         [] => alone(verb),
         [directory] => of_directory(verb, directory.as_str()),
         [directory, target] => of_both(verb, directory.as_str(), target.as_str()),
+        [directory, target, mode] => {
+            of_mode(verb, directory.as_str(), target.as_str(), mode.as_str())
+        }
         _ => Err(CommandError::TooMany),
     }
 }

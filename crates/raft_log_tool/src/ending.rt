@@ -1,8 +1,8 @@
 //! The text of how the reading of a file ended.
 ghost use Rattle.std.specs.Prelude.{◌≡◌, ◌++◌, OnOk, string_bytes};
-ghost use Rattle.raft_log_tool.specs.Lines.{ending_text, fault_name, file_text, queue_text};
+ghost use Rattle.raft_log_tool.specs.Lines.{cut_text, ending_text, fault_name, file_text, queue_text};
 
-use crate::content::Ending;
+use crate::content::{Ending, LogContent};
 use crate::numbers::push_named;
 use raft_log_files::{CorruptionFault, HeaderFault};
 use raft_log_records::{FileId, LogQueue, RecordFault};
@@ -93,6 +93,19 @@ pub fn push_ending(
             text.push_str(" ")?;
             text.push_str(fault_name(fault))?;
             text.push_str("\n")
+        }
+    }
+}
+
+/// The text, and behind it a line that tells where a file is cut; none where it isn't.
+pub fn push_cut(text: &mut String, id: FileId, content: &LogContent) -> Result<(), AllocError>
+    ensures { OnOk result (string_bytes text.new ≡ string_bytes text.old ++ cut_text id content.now.ending content.now.to content.now.size) }
+{
+    match content.ending {
+        Ending::Whole => Ok(()),
+        ending => {
+            text.push_str("cut ")?;
+            push_ending(text, id, ending, content.to, content.size)
         }
     }
 }

@@ -1,8 +1,10 @@
 //! How the program ends.
 ghost use Rattle.std.specs.Prelude.{◌≡◌, ◌⊎◌, ◌↔◌, IsTrue};
+ghost use Rattle.raft_log_files.specs.declared.error.CorruptionFault.{CorruptionFault};
+ghost use Rattle.raft_log_files.specs.declared.error.Error.TheVariants.{Corruption};
 ghost use Rattle.raft_log_tool.specs.Status.{status_of, status_of_end};
 
-use raft_log_files::Error;
+use raft_log_files::{CorruptionFault, Error};
 use raft_log_tools::ForkError;
 use std::alloc::{AllocError, AllocFailed};
 use std::io::{self, ErrorKind};
@@ -37,6 +39,9 @@ pub enum Failure {
     /// The system refused to make or to write the target.
     #[error("can't be written: {0}")]
     Unwritten(io::Error),
+    /// A file of the copy would be cut where the mode doesn't say so.
+    #[error("the mode refuses the fault of a file: {0}")]
+    Refused(CorruptionFault),
     /// The system refused the output.
     #[error("the output can't be written: {0}")]
     Output(io::Error),
@@ -68,6 +73,7 @@ impl Failure {
             Failure::TargetNotEmpty | Failure::TargetWithin | Failure::Unwritten(_) => 5,
             Failure::InUse => 6,
             Failure::Output(_) => 7,
+            Failure::Refused(_) => 8,
         }
     }
 
@@ -79,6 +85,18 @@ impl Failure {
             self,
             Failure::TargetNotEmpty | Failure::TargetWithin | Failure::Unwritten(_)
         )
+    }
+
+    /// Why a copy isn't repaired.
+    pub fn of_repairing(why: Error) -> Failure
+        ensures refused { (fault : CorruptionFault) → why ≡ Corruption fault → result ≡ Failure.Refused fault }
+        ensures other { (result ≡ Failure.Memory) ⊎ (result ≡ Failure.Log why) ⊎ ((fault : CorruptionFault) × (why ≡ Corruption fault)) }
+    {
+        match why {
+            Error::Corruption(fault) => Failure::Refused(fault),
+            Error::Memory => Failure::Memory,
+            other => Failure::Log(other),
+        }
     }
 
     /// Why a directory isn't read.

@@ -12,6 +12,7 @@ mod holes;
 mod lines;
 mod log_files;
 mod numbers;
+mod repairing;
 mod running;
 mod sizes;
 mod span;
@@ -28,6 +29,7 @@ usage: raft_log_tool dump DIRECTORY
        raft_log_tool span DIRECTORY
        raft_log_tool sizes DIRECTORY
        raft_log_tool copy DIRECTORY TARGET
+       raft_log_tool repair DIRECTORY TARGET MODE
        raft_log_tool --help";
 
 const HELP: &str = "
@@ -38,6 +40,11 @@ Looks into the log files of a node's DIRECTORY, and changes nothing there.
   sizes  bytes of entries and of keys by group, as found in the files
   copy   copies the files that an opening finds into TARGET, which is
          empty, or made
+  repair copies them, and cuts each copy where its whole records end, as
+         an opening by MODE does:
+           absolute-consistency             cuts none
+           tolerate-corrupted-tail-records  cuts the last file of a queue
+           tolerate-any-corruption          cuts each
 A directory that a node has open is refused. docs/LOGTOOL.md has the lines.
 
 Statuses:
@@ -48,7 +55,8 @@ Statuses:
   4  the arguments are others
   5  the target isn't empty, or can't be written
   6  a node has the directory open
-  7  the output can't be written";
+  7  the output can't be written
+  8  the mode refuses a fault: nothing is written";
 
 // Usage and statuses, on standard output.
 fn help(rt: HostRuntime) -> Result<End, Failure> {
@@ -66,7 +74,12 @@ fn place_of<'a>(command: Command<'a>, why: &Failure) -> &'a str {
         | Command::Check(directory)
         | Command::Span(directory)
         | Command::Sizes(directory) => directory,
-        Command::Copy { directory, target } => {
+        Command::Copy { directory, target }
+        | Command::Repair {
+            directory,
+            target,
+            ..
+        } => {
             if why.is_of_target() {
                 target
             } else {

@@ -6,16 +6,17 @@ use crate::command::Command;
 use crate::content::{Ending, LogContent, read_content};
 use crate::copying::{check_target, fork_directory, write_copies};
 use crate::directory::read_directory;
-use crate::ending::push_ending;
+use crate::ending::{push_cut, push_ending};
 use crate::failure::{End, Failure};
 use crate::holes::text_of_holes;
 use crate::lines::push_items;
 use crate::log_files::{LogFile, files_of_queue};
+use crate::repairing::repair_directory;
 use crate::sizes::GroupSizes;
 use crate::span::{sizes_of, text_of_span};
-use raft_log_files::{Error, FileSystem};
+use raft_log_files::{Error, FileSystem, MemoryFileSystem, RecoveryMode};
 use raft_log_records::LogQueue;
-use raft_log_tools::consistency_check;
+use raft_log_tools::{CopyDetails, consistency_check};
 use std::alloc::{AllocError, Global};
 use std::io::Write;
 
@@ -161,14 +162,56 @@ fn print_copied(rt: &HostRuntime, copied: &[String]) -> Result<(), Failure> {
     Ok(())
 }
 
-// The files that an opening finds, copied into the target.
-fn copy(rt: &HostRuntime, directory: &str, target: &str) -> Result<(), Failure> {
-    let target = without_slashes(target);
+// The files that an opening finds in the directory, copied in memory under their names in the target.
+fn copied(
+    rt: &HostRuntime,
+    directory: &str,
+    target: &str,
+) -> Result<(MemoryFileSystem, CopyDetails), Failure> {
     check_target(rt, directory, target)?;
     let mut files = read_directory(rt, directory)?;
     let details = fork_directory(&mut files, rt.alloc(), directory, target)?;
+    Ok((files, details))
+}
+
+// The copies, in the target.
+fn copy(rt: &HostRuntime, directory: &str, target: &str) -> Result<(), Failure> {
+    let (mut files, details) = copied(rt, directory, target)?;
     write_copies(rt, &mut files, target, details.copied.as_slice())?;
     print_copied(rt, details.copied.as_slice())
+}
+
+// Where files of a queue are cut, a line each.
+fn cuts_of_queue<F: FileSystem>(
+    files: &mut F,
+    alloc: Global,
+    directory: &str,
+    queue: LogQueue,
+) -> Result<String, Error> {
+    let mut text = String::new(alloc);
+    for file in &files_of_queue(files, alloc, directory, queue)? {
+        let content = read_content(files, alloc, file)?;
+        push_cut(&mut text, file.id, &content)?;
+    }
+    Ok(text)
+}
+
+// The copies, each cut by the mode before it gets onto the disk. Where the mode refuses a fault
+// nothing is written.
+fn repair(
+    rt: &HostRuntime,
+    directory: &str,
+    target: &str,
+    mode: RecoveryMode,
+) -> Result<(), Failure> {
+    let (mut files, details) = copied(rt, directory, target)?;
+    let rewrite = cuts_of_queue(&mut files, rt.alloc(), target, LogQueue::Rewrite)?;
+    let append = cuts_of_queue(&mut files, rt.alloc(), target, LogQueue::Append)?;
+    repair_directory(&mut files, rt.alloc(), target, mode).map_err(Failure::of_repairing)?;
+    write_copies(rt, &mut files, target, details.copied.as_slice())?;
+    print_copied(rt, details.copied.as_slice())?;
+    print(rt, rewrite.as_str())?;
+    print(rt, append.as_str())
 }
 
 /// Does what a command asks for. Nothing changes in its directory.
@@ -195,7 +238,12 @@ pub fn run(rt: HostRuntime, command: Command) -> Result<End, Failure> {
             let mut files = read_directory(&rt, directory)?;
             sizes(&rt, &mut files, directory)?;
         }
-        Command::Copy { directory, target } => copy(&rt, directory, target)?,
+        Command::Copy { directory, target } => copy(&rt, directory, without_slashes(target))?,
+        Command::Repair {
+            directory,
+            target,
+            mode,
+        } => repair(&rt, directory, without_slashes(target), mode)?,
     }
     Ok(End::Done)
 }

@@ -1,15 +1,15 @@
--- How many entries and keys records have that set them.
+-- How many entries, keys and marks records have.
 use Rattle.std.specs.Prelude.{ℕ, ◌+◌, ◌-◌, ◌^◌, min, List, [], ◌∷◌, length}
 use Rattle.raft_log_records.specs.Item.{Change, Item}
 use Rattle.raft_log_records.specs.Item.Change.{entries, clean, compact, put, delete, mark}
 
--- by a change
+-- by a change: each entry is one, a key that is set, and each mark: a Clean, a Compact, a key that is removed
 abbrev pub written_by : {E : Type 0} → Change E → ℕ
 written_by (entries es) = length es
 written_by (put key value) = 1
-written_by clean = 0
-written_by (compact limit) = 0
-written_by (delete key) = 0
+written_by clean = 1
+written_by (compact limit) = 1
+written_by (delete key) = 1
 written_by (mark id status) = 0
 
 -- by the items of a record

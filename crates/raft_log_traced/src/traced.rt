@@ -46,8 +46,8 @@ pub struct TracedTables {
     /// Records of an atomic group stood apart in the rewrite queue that an opening replayed. So that
     /// queue isn't to be written anew: while its first records go, others could count again.
     pub is_parted: bool,
-    /// How many entries and keys the records had that were written to the rewrite queue, since it was
-    /// last written anew. It stays at 2^64 - 1.
+    /// How many entries, keys and marks the records had that were written to the rewrite queue, since
+    /// it was last written anew. It stays at 2^64 - 1.
     pub written: u64,
 }
 
@@ -85,7 +85,7 @@ impl TracedTables {
     }
 
     /// A batch with these items was written to the rewrite queue: the entries of each item that are
-    /// there lie in the block of this handle now, and its entries and keys are counted. Nothing else
+    /// there lie in the block of this handle now, and its entries, keys and marks are counted. Nothing else
     /// changes.
     pub fn set_places(&mut self, items: &[LogItem], handle: FileBlockHandle)
         ensures content { content_in self.new.tables ≡ items_moved handle items.now (content_in self.old.tables) }
@@ -109,7 +109,7 @@ pub struct TracedReplay {
     pub(crate) has_marked: bool,
     /// Whether records of atomic groups stand together, of the rewrite queue.
     pub(crate) together: Together,
-    /// How many entries and keys the records of the rewrite queue have.
+    /// How many entries, keys and marks the records of the rewrite queue have.
     pub(crate) written: u64,
 }
 

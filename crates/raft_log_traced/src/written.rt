@@ -1,4 +1,4 @@
-//! How many entries and keys are written to the rewrite queue.
+//! How much is written to the rewrite queue: entries, keys and marks.
 
 ghost use Rattle.std.specs.Prelude.{◌≡◌, ◌+◌};
 ghost use Rattle.raft_log_records.specs.Item.{change_of, items_of};
@@ -6,16 +6,15 @@ ghost use Rattle.raft_log_traced.specs.Written.{counted, written_by, written_in}
 
 use raft_log_records::{LogItem, LogItemContent};
 
-/// How many entries and keys an item has that it sets.
+/// How many entries an item has; a key or a mark is one.
 fn count_of(item: &LogItem) -> u64
     ensures { result ≡ written_by (change_of item.now.content) }
 {
     match &item.content {
         LogItemContent::EntryIndexes(entries) => entries.len() as u64,
-        LogItemContent::Put { .. } => 1,
-        LogItemContent::Command(_)
-        | LogItemContent::Delete { .. }
-        | LogItemContent::AtomicGroup { .. } => 0,
+        LogItemContent::Put { .. } | LogItemContent::Delete { .. } | LogItemContent::Command(_) =>
+            1,
+        LogItemContent::AtomicGroup { .. } => 0,
     }
 }
 

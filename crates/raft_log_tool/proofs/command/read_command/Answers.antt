@@ -3,17 +3,18 @@ use Rattle.std.specs.declared.alloc.Global.{Global}
 use Rattle.std.proofs.lemmas.List.{length-drop, length-map}
 use Rattle.raft_log_tool.specs.Command.{needs}
 use Rattle.raft_log_tool.specs.declared.command.Verb.{Verb}
-use Rattle.raft_log_tool.specs.declared.command.Verb.TheVariants.{Check, Copy, Dump, Help, Sizes, Span}
+use Rattle.raft_log_tool.specs.declared.command.Verb.TheVariants.{Check, Copy, Dump, Help, Repair, Sizes, Span}
 use Rattle.raft_log_tool.proofs.LineLemmas.{head_of}
 use Rattle.raft_log_tool.proofs.command.read_command.Goals as goal
 
-few : (name : Verb) (n : ℕ) → 2 < n → needs name < n
+few : (name : Verb) (n : ℕ) → 3 < n → needs name < n
 few Help n more = omega (arith, more)
 few Dump n more = omega (arith, more)
 few Check n more = omega (arith, more)
 few Span n more = omega (arith, more)
 few Sizes n more = omega (arith, more)
-few Copy n more = more
+few Copy n more = omega (arith, more)
+few Repair n more = more
 
 pub returns-in_default-verb_in-clause-err : goal.returns-in_default-verb_in-clause-err
 returns-in_default-verb_in-clause-err c =
