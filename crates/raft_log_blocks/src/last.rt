@@ -1,6 +1,6 @@
 //! Entries that are read one after the other.
 
-ghost use Rattle.std.specs.Prelude.{◌≡◌, IfErr, IfOk, OnOk};
+ghost use Rattle.std.specs.Prelude.{◌≡◌, IfErr, IfOk, IsTrue, OnOk, Some};
 ghost use Rattle.raft_log_blocks.specs.Blocks.{HasBlock, IsReadAs, StandsWhole};
 ghost use Rattle.raft_log_blocks.specs.Last.{IsLastOf};
 ghost use Rattle.raft_log_blocks.specs.Placed.{bytes_on};
@@ -36,6 +36,16 @@ impl LastBlock {
         }
     }
 
+    // Whether it is this block.
+    fn is_at(&self, handle: FileBlockHandle) -> bool
+        ensures { IsTrue result → self.now.handle ≡ Some handle }
+    {
+        match self.handle {
+            Some(last) => last == handle,
+            None => false,
+        }
+    }
+
     // The block is the last one then, and is read unless it was.
     fn come_to<F: FileSystem>(
         &mut self,
@@ -50,7 +60,7 @@ impl LastBlock {
         ensures read { OnOk result (IsReadAs (F.disk files.now) pipes.now handle self.new.entries.items) }
         ensures err { IfErr result (λ error. IsUnread (F.disk files.now) pipes.now (F.meter files.now) handle error) }
     {
-        if self.handle == Some(handle) {
+        if self.is_at(handle) {
             return Ok(());
         }
         self.entries = read_block(files, pipes, handle)?;
