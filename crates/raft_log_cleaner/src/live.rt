@@ -9,12 +9,13 @@ ghost use Rattle.raft_log_traces.specs.GroupTraces.{traces_in};
 
 use crate::entries::as_index;
 use crate::facts::{counts_of, end_before};
+use raft_log_purge::RewriteCounts;
 use raft_log_traced::TracedTables;
 use raft_log_traces::GroupTraces;
 use std::alloc::AllocError;
 
 /// Of a group that is written anew: a Clean and a Compact.
-const GROUP_MARKS: u128 = 2;
+const GROUP_MARKS: u64 = 2;
 
 /// No append file has a lesser number.
 const FIRST_FILE: u64 = 1;
@@ -62,14 +63,14 @@ fn stored_keys(log: &TracedTables, group: u64) -> Result<u64, AllocError>
     Ok(stored_among(&log.traces, group, &found))
 }
 
-/// How many entries and keys of a group stand in the rewrite queue, and its two marks there.
+/// How many entries and keys of a group stand in the rewrite queue.
 fn live_in(log: &TracedTables, group: u64) -> Result<u128, AllocError>
     requires { TellEntries (traces_in log.now.traces) (content_in log.now.tables) }
     ensures { IfOk result (AreLiveOf (content_in log.now.tables group) (traces_in log.now.traces group)) }
 {
     let entries = rewritten_of(log, group);
     let keys = stored_keys(log, group)?;
-    Ok(entries as u128 + keys as u128 + GROUP_MARKS)
+    Ok(entries as u128 + keys as u128)
 }
 
 /// So many and so many more, up to the greatest count.
@@ -80,17 +81,18 @@ fn sum_of(before: u64, more: u128) -> u64
     sum.min(u64::MAX as u128) as u64
 }
 
-/// How many entries and keys of all groups stand in the rewrite queue, and two marks of each group
-/// (own): so much it has once it is written anew. The only error is want of memory.
-pub fn live_of(log: &TracedTables) -> Result<u64, AllocError>
+/// How many entries and keys of all groups stand in the rewrite queue, and two marks of each group:
+/// so much it has once it is written anew (own). The only error is want of memory.
+pub fn live_of(log: &TracedTables) -> Result<RewriteCounts, AllocError>
     requires { TellEntries (traces_in log.now.traces) (content_in log.now.tables) }
     ensures { IfOk result (AreLive log.now) }
 {
     let groups = log.tables.groups()?;
-    let mut live = 0;
+    let mut sets = 0;
     for group in &groups {
         let more = live_in(log, *group)?;
-        live = sum_of(live, more);
+        sets = sum_of(sets, more);
     }
-    Ok(live)
+    let marks = (groups.len() as u64).saturating_mul(GROUP_MARKS);
+    Ok(RewriteCounts { sets, marks })
 }

@@ -5,6 +5,7 @@ use Rattle.std.specs.Prelude.{◌↔◌, IsTrue}
 use Rattle.raft_log_pipes.specs.declared.pipes.DualPipes.{DualPipes}
 use Rattle.raft_log_pipe.specs.declared.pipe.SinglePipe.{SinglePipe}
 use Rattle.raft_log_purge.specs.declared.due.QueueFiles.{QueueFiles}
+use Rattle.raft_log_purge.specs.declared.due.RewriteCounts.{RewriteCounts}
 use Rattle.raft_log_traced.specs.declared.traced.TracedTables.{TracedTables}
 use Rattle.raft_log_cleaner.specs.declared.manager.PurgeManager.{PurgeManager}
 use Rattle.raft_log_cleaner.specs.Live.{AreLive}
@@ -17,13 +18,13 @@ files_are files p first active size = λ i. record { first = first i; active = a
 
 module _ (m : PurgeManager) (p : DualPipes) (log : TracedTables) where
   -- by what counts
-  due_by_case : (live : ℕ) (told : Bool) → log.is_parted ≡ false → AreLive log live → (IsTrue told → IsDueBy m p log live) → (IsDueBy m p log live → IsTrue told)
+  due_by_case : (live : RewriteCounts) (told : Bool) → log.is_parted ≡ false → AreLive log live → (IsTrue told → IsDueBy m p log live) → (IsDueBy m p log live → IsTrue told)
       → OnTrue told (IsRewriteDue m p log) × OnFalse told (IsRewriteSpared m p log)
   due_by_case live true together are from to = (record { together = together; live = live; are = are; due = from refl }, tt)
   due_by_case live false together are from to =
       (tt, inr (inr (record { live = live; are = are; not_due = λ due. let never : false ≡ true = to due in absurd cc })))
 
-  pub due_told : (live : ℕ) (files : QueueFiles) (threshold percent : ℕ) (told : Bool) → files ≡ queue_of p.rewrite → threshold ≡ m.rewrite_threshold → percent ≡ m.garbage_percent → log.is_parted ≡ false → AreLive log live
+  pub due_told : (live : RewriteCounts) (files : QueueFiles) (threshold percent : ℕ) (told : Bool) → files ≡ queue_of p.rewrite → threshold ≡ m.rewrite_threshold → percent ≡ m.garbage_percent → log.is_parted ≡ false → AreLive log live
       → IsTrue told ↔ IsDue files (counts_of log live) threshold percent → OnTrue told (IsRewriteDue m p log) × OnFalse told (IsRewriteSpared m p log)
   due_told live files threshold percent told is_files is_threshold is_percent together are tells =
       let counts = counts_of log live in

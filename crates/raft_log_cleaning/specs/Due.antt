@@ -1,7 +1,8 @@
 -- Which queues of a log are due.
 use Rattle.std.specs.Bool.{OnFalse, OnTrue}
-use Rattle.std.specs.Prelude.{◌≡◌, ◌⊎◌, ◌↔◌, ℕ, true, false, IsTrue}
+use Rattle.std.specs.Prelude.{◌≡◌, ◌⊎◌, ◌↔◌, true, false, IsTrue}
 use Rattle.raft_log_pipes.specs.declared.pipes.DualPipes.{DualPipes}
+use Rattle.raft_log_purge.specs.declared.due.RewriteCounts.{RewriteCounts}
 use Rattle.raft_log_purge.specs.declared.due.Rewritten.{Rewritten}
 use Rattle.raft_log_purge.specs.Due.{IsLarge}
 use Rattle.raft_log_traced.specs.declared.traced.TracedTables.{TracedTables}
@@ -12,23 +13,23 @@ use Rattle.raft_log_rewriter.specs.Due.{IsDue}
 use Rattle.raft_log_cleaning.specs.declared.due.Due.{Due}
 
 -- what was written to the rewrite queue since it was last written anew, and what of it still counts
-abbrev pub counts_of : TracedTables → ℕ → Rewritten
+abbrev pub counts_of : TracedTables → RewriteCounts → Rewritten
 counts_of log live = record { written = log.written; live = live }
 
 -- so it is to be written anew
-abbrev pub IsDueBy : PurgeManager → DualPipes → TracedTables → ℕ → Type 0
+abbrev pub IsDueBy : PurgeManager → DualPipes → TracedTables → RewriteCounts → Type 0
 IsDueBy m p log live = IsDue (queue_of p.rewrite) (counts_of log live) m.rewrite_threshold m.garbage_percent
 
 -- The rewrite queue is due, by what counts of it. The records of each atomic group in it stand together
 pub record IsRewriteDue (m : PurgeManager) (p : DualPipes) (log : TracedTables) : Type 0 where
   pub together : log.is_parted ≡ false
-  pub live : ℕ
+  pub live : RewriteCounts
   pub are : AreLive log live
   pub due : IsDueBy m p log live
 
 -- it isn't, by what counts of it
 pub record IsRewriteKept (m : PurgeManager) (p : DualPipes) (log : TracedTables) : Type 0 where
-  pub live : ℕ
+  pub live : RewriteCounts
   pub are : AreLive log live
   pub not_due : IsDueBy m p log live → ⊥
 

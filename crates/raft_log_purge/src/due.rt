@@ -3,7 +3,7 @@
 ghost use Rattle.std.specs.Prelude.{◌≡◌, ◌+◌, ◌-◌, ◌*◌, ◌^◌, ◌↔◌, min, length, IsTrue};
 ghost use Rattle.raft_log_pipe.specs.Pipe.{first_of};
 ghost use Rattle.raft_log_pipes.specs.Pipes.{pipe_of};
-ghost use Rattle.raft_log_purge.specs.Due.{HasGarbage, IsLarge};
+ghost use Rattle.raft_log_purge.specs.Due.{HasGarbage, IsLarge, IsPast, all_of};
 
 use raft_log_pipes::DualPipes;
 use raft_log_records::{FileSeq, LogQueue};
@@ -19,13 +19,22 @@ pub struct QueueFiles {
     pub size: u64,
 }
 
+/// What stands in the rewrite queue, counted. A count stays at 2^64 - 1.
+#[derive(Clone, Copy, PartialEq, Eq)]
+pub struct RewriteCounts {
+    /// Entries, and keys that are set (raft-engine's `rewrite_entries`).
+    pub sets: u64,
+    /// Marks (own): each Clean, each Compact, each key that is removed.
+    pub marks: u64,
+}
+
 /// What was written to the rewrite queue.
 #[derive(Clone, Copy, PartialEq, Eq)]
 pub struct Rewritten {
-    /// How many entries, keys and marks were written to it, since it was last written anew.
-    pub written: u64,
-    /// How many of them still count.
-    pub live: u64,
+    /// How much was written to it, since it was last written anew.
+    pub written: RewriteCounts,
+    /// How much of it still counts.
+    pub live: RewriteCounts,
 }
 
 /// The files that a queue has.
@@ -49,10 +58,29 @@ pub fn is_large(files: QueueFiles, most: u64) -> bool
     files.first < files.active && most < files.size
 }
 
-/// Whether more per cent than these of what was written to the rewrite queue count no more.
+impl RewriteCounts {
+    /// Entries, keys and marks together.
+    fn all(&self) -> u64
+        ensures { result ≡ all_of self.now }
+    {
+        self.sets.saturating_add(self.marks)
+    }
+}
+
+/// Whether more per cent than these of so many count no more.
+fn is_past(written: u64, live: u64, percent: u64) -> bool
+    ensures { IsTrue result ↔ IsPast written live percent }
+{
+    let garbage = written.saturating_sub(live);
+    (written as u128) * (percent as u128) < (garbage as u128) * 100
+}
+
+/// Whether more per cent than these of what was written to the rewrite queue count no more: of its
+/// entries and keys (as raft-engine counts), or of these with its marks (own), so that marks alone
+/// don't pile up.
 pub fn has_garbage(counts: Rewritten, percent: u64) -> bool
     ensures { IsTrue result ↔ HasGarbage counts percent }
 {
-    let garbage = counts.written.saturating_sub(counts.live);
-    (counts.written as u128) * (percent as u128) < (garbage as u128) * 100
+    is_past(counts.written.sets, counts.live.sets, percent)
+        || is_past(counts.written.all(), counts.live.all(), percent)
 }

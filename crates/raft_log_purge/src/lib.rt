@@ -16,7 +16,7 @@ mod watermarks;
 
 pub use anew::{groups_anew_leave_queues, old_rewrites_leave_queues, stored_groups_are_anew};
 pub use choice::{Choice, GroupFacts, choice_of};
-pub use due::{QueueFiles, Rewritten, files_of, has_garbage, is_large};
+pub use due::{QueueFiles, RewriteCounts, Rewritten, files_of, has_garbage, is_large};
 pub use going::{first_kept, let_go};
 pub use laws::{cleaning_steps_keep_queues, worked_marks};
 pub use listener::{EventListener, PurgeHook, least_kept, tell_gone, tell_new_file};

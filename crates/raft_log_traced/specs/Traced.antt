@@ -16,7 +16,7 @@ use Rattle.raft_log_replay.specs.Batches.{HasReplayed}
 use Rattle.raft_log_traces.specs.Alike.{AreAlike}
 use Rattle.raft_log_traces.specs.GroupTraces.{traces_in}
 use Rattle.raft_log_traced.specs.declared.traced.TracedReplay.{TracedReplay}
-use Rattle.raft_log_traced.specs.Written.{counted, written_in_all}
+use Rattle.raft_log_traced.specs.Written.{counts_in}
 
 -- batches of the append queue count for traces, in their files
 abbrev pub traces_with : LogQueue → ℕ → List (Item EntryIndex) → Traces → Traces
@@ -46,13 +46,13 @@ rewrites_in [] = []
 rewrites_in (p ∷ ps) = if_rewrite p.handle.id.queue p.items ++ rewrites_in ps
 
 -- the tables have replayed just these batches, and the traces have those of the append queue. It is noted whether one of those is
--- marked, whether the records of each atomic group in the rewrite queue stand together, and how many entries and keys that queue has
+-- marked, whether the records of each atomic group in the rewrite queue stand together, and how much that queue has
 pub record IsReplayedTraced (machine : TracedReplay) (placed : List Placed) : Type 0 where
   pub tables : HasReplayed machine.replayed placed
   pub traces : AreAlike (traces_over placed (λ group. new_trace)) (traces_in machine.traces)
   pub marked : machine.has_marked ≡ any_marked placed
   pub together : Tells machine.together (rewrites_in placed)
-  pub written : machine.written ≡ counted (written_in_all (rewrites_in placed))
+  pub written : machine.written ≡ counts_in (rewrites_in placed)
 
 -- the append file that the place of an entry says. None: it lies in the rewrite queue, or nowhere
 abbrev pub file_on : LogQueue → ℕ → Option ℕ

@@ -16,7 +16,7 @@ ghost use Rattle.raft_log_records.specs.declared.file_id.LogQueue.TheVariants.{A
 ghost use Rattle.raft_log_replay.specs.Batches.{content_over, reach_over, records_in};
 ghost use Rattle.raft_log_traced.specs.Places.{items_moved};
 ghost use Rattle.raft_log_traced.specs.Traced.{AreOf, IsReplayedTraced, any_marked, filed_in, lies_in, rewrites_in};
-ghost use Rattle.raft_log_traced.specs.Written.{counted, written_in, written_in_all};
+ghost use Rattle.raft_log_traced.specs.Written.{counts_in, with_record};
 ghost use Rattle.raft_log_traces.specs.Alike.{AreAlike};
 ghost use Rattle.raft_log_traces.specs.GroupTraces.{traces_in};
 
@@ -26,12 +26,15 @@ use crate::places::set_places;
 use crate::written::with_written;
 use raft_log_files::Error;
 use raft_log_memtables::MemTables;
-use raft_log_purge::Together;
+use raft_log_purge::{RewriteCounts, Together};
 use raft_log_records::{FileBlockHandle, FileSeq, LogItem, LogItemBatch, LogQueue};
 use raft_log_recovery::{NewMachine, ReplayMachine};
 use raft_log_replay::ReplayedTables;
 use raft_log_traces::GroupTraces;
 use std::alloc::{AllocError, Global};
+
+/// The counts of a rewrite queue that has no record.
+const NOTHING_WRITTEN: RewriteCounts = RewriteCounts { sets: 0, marks: 0 };
 
 /// What the log engine has of each group, and keeps of it for cleaning.
 #[derive(Drop)]
@@ -46,9 +49,8 @@ pub struct TracedTables {
     /// Records of an atomic group stood apart in the rewrite queue that an opening replayed. So that
     /// queue isn't to be written anew: while its first records go, others could count again.
     pub is_parted: bool,
-    /// How many entries, keys and marks the records had that were written to the rewrite queue, since
-    /// it was last written anew. It stays at 2^64 - 1.
-    pub written: u64,
+    /// How much the records had that were written to the rewrite queue, since it was last written anew.
+    pub written: RewriteCounts,
 }
 
 impl TracedTables {
@@ -59,14 +61,14 @@ impl TracedTables {
         ensures traces { (group : ℕ) → traces_in result.traces group ≡ new_trace }
         ensures marked { result.has_marked ≡ false }
         ensures parted { result.is_parted ≡ false }
-        ensures written { result.written ≡ 0 }
+        ensures written { result.written ≡ record { sets = 0; marks = 0 } }
     {
         TracedTables {
             tables: MemTables::new(alloc),
             traces: GroupTraces::new(alloc),
             has_marked: false,
             is_parted: false,
-            written: 0,
+            written: NOTHING_WRITTEN,
         }
     }
 
@@ -93,7 +95,7 @@ impl TracedTables {
         ensures traces { self.new.traces ≡ self.old.traces }
         ensures marked { self.new.has_marked ≡ self.old.has_marked }
         ensures parted { self.new.is_parted ≡ self.old.is_parted }
-        ensures written { self.new.written ≡ counted (self.old.written + written_in (items_of items.now)) }
+        ensures written { self.new.written ≡ with_record self.old.written (items_of items.now) }
     {
         set_places(&mut self.tables, items, handle);
         self.written = with_written(self.written, items);
@@ -109,8 +111,8 @@ pub struct TracedReplay {
     pub(crate) has_marked: bool,
     /// Whether records of atomic groups stand together, of the rewrite queue.
     pub(crate) together: Together,
-    /// How many entries, keys and marks the records of the rewrite queue have.
-    pub(crate) written: u64,
+    /// How much the records of the rewrite queue have.
+    pub(crate) written: RewriteCounts,
 }
 
 impl ReplayMachine for TracedReplay {
@@ -140,7 +142,7 @@ impl NewMachine for TracedReplay {
             traces: GroupTraces::new(alloc),
             has_marked: false,
             together: Together::new(),
-            written: 0,
+            written: NOTHING_WRITTEN,
         }
     }
 }
@@ -164,7 +166,7 @@ impl TracedReplay {
             → IfOk result (λ log. log.has_marked ≡ false → AreUnmarked (batches_of (filed_in appends))) }
         ensures together { (rewrites : List Placed) (appends : List Placed) → IsReplayedTraced self (rewrites ++ appends) → AreOf Rewrite rewrites → AreOf Append appends
             → IfOk result (λ log. (log.is_parted ≡ false) ↔ StandTogether (records_in rewrites)) }
-        ensures written { (placed : List Placed) → IsReplayedTraced self placed → IfOk result (λ log. log.written ≡ counted (written_in_all (rewrites_in placed))) }
+        ensures written { (placed : List Placed) → IsReplayedTraced self placed → IfOk result (λ log. log.written ≡ counts_in (rewrites_in placed)) }
     {
         let has_marked = self.has_marked;
         let is_parted = !self.together.stand();

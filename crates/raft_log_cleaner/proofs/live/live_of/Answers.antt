@@ -21,7 +21,7 @@ loop-group-preserved c =
     let more = c.in_ok-more.more in (
       before.0 + more,
       subst (λ (l : List ℕ). AreLiveIn log l (before.0 + more)) (sym (take_more xs i 0 within)) (live_more log (take i xs) (get_or xs i 0) before.0 more before.1 c.in_ok-more.ensures),
-      omega (arith, before.2, c.sum_of-live.ensures),
+      omega (arith, before.2, c.sum_of-sets.ensures),
     )
 
 pub returns : goal.returns
@@ -35,5 +35,6 @@ returns c =
       exactly = λ group. c.in_ok-groups.ensures.exactly group ∙ ap (λ (l : List ℕ). is_among l group) (sym c.deref-group-items.ensures.value);
       all = so_far.0;
       counted = subst (λ (l : List ℕ). AreLiveIn c.args.log.now l so_far.0) (take_all i xs c.loop-group-test.false) so_far.1;
-      is = so_far.2;
+      sets = so_far.2;
+      marks = omega (arith, c.saturating_mul-marks.ensures, c.len.ensures, ap length c.deref-group-items.ensures.value);
     }

@@ -5,4 +5,4 @@ use Rattle.raft_log_cleaner.specs.Live.{AreLiveIn}
 use Rattle.raft_log_cleaner.proofs.live.live_of.Given as goal
 
 abbrev pub invariant-loop-group : goal.invariant-loop-group
-invariant-loop-group l = (all : ℕ) × AreLiveIn l.log (take l.group-index l.group-items) all × (l.live ≡ min all (2 ^ 64 - 1))
+invariant-loop-group l = (all : ℕ) × AreLiveIn l.log (take l.group-index l.group-items) all × (l.sets ≡ min all (2 ^ 64 - 1))

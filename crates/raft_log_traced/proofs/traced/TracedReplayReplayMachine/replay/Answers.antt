@@ -12,7 +12,7 @@ use Rattle.raft_log_traces.specs.GroupTraces.{traces_in}
 use Rattle.raft_log_traced.specs.declared.traced.TracedReplay.{TracedReplay}
 use Rattle.raft_log_purge.specs.Together.{Tells}
 use Rattle.raft_log_traced.specs.Traced.{rewrites_in, traces_over}
-use Rattle.raft_log_traced.specs.Written.{counted, written_in}
+use Rattle.raft_log_traced.specs.Written.{with_record}
 use Rattle.raft_log_traced.proofs.MarkedLemmas.{append_noted, rewrite_noted}
 use Rattle.raft_log_traced.proofs.PartedLemmas.{append_told, rewrite_told}
 use Rattle.raft_log_traced.proofs.TraceLemmas.{appended, rewritten}
@@ -48,6 +48,6 @@ returns-clause-replayed c = on_ok c.replay.result c.replay.ensures.replayed
                 (subst (λ (l : List LogItem). Tells w.add.new.self (rewrites_in placed ++ items_of l ∷ [])) w.deref-in-Rewrite.ensures.value (w.add.ensures (rewrites_in placed) has.together)));
             written = rewrite_counted placed p c.args.self.now.written c.match-handle.self.written w.in-Rewrite.is has.written
                 (ap (λ (m : TracedReplay). m.written) w.self-is ∙ w.with_written-self.ensures
-                ∙ ap (λ (l : List LogItem). counted (c.args.self.now.written + written_in (items_of l))) w.deref-in-Rewrite-2.ensures.value);
+                ∙ ap (λ (l : List LogItem). with_record c.args.self.now.written (items_of l)) w.deref-in-Rewrite-2.ensures.value);
           }
     ])
