@@ -1,6 +1,8 @@
 -- What a repair leaves of the files of a queue, and of both queues one after the other.
-use Rattle.std.proofs.Common.{◌≡◌, ℕ, List, [], ◌∷◌, ◌++◌, length, Option, Some, None, refl, sym, ap, subst, ◌∙◌, arith}
+use Rattle.std.proofs.Common.{◌≡◌, ℕ, List, [], ◌∷◌, ◌++◌, length, Option, Some, None, Result, Ok, Err, refl, sym, ap, subst, ◌∙◌, arith}
 use Rattle.std.specs.List.{AllByRecursion}
+use Rattle.std.specs.Prelude.{IsErr, OnOk}
+use Rattle.std.proofs.lemmas.Bool.{false≢true}
 use Rattle.raft_log_records.specs.declared.file_id.LogQueue.{LogQueue}
 use Rattle.raft_log_records.specs.declared.file_id.LogQueue.TheVariants.{Append, Rewrite}
 use Rattle.raft_log_disk.specs.Text.{Text}
@@ -22,9 +24,20 @@ use Rattle.raft_log_recovery.proofs.FoundLemmas.{found_numbered}
 use Rattle.raft_log_recovery.proofs.QueueLemmas.{number_of, open_file_of}
 use Rattle.raft_log_tool.specs.Repairs.{AreWholeIn, IsRepairedIn, KeepsOutside}
 
+-- ---- results
+
+-- what holds of a queue that was repaired, where nothing of it was refused
+pub on_both : {E A R B : Type 0} (result : Result (Unit {0}) E) → OnOk result A → (R → IsErr result) → (A → (R → ⊥) → B) → OnOk result B
+on_both (Ok u) a refused make = make a (λ r. false≢true (refused r))
+on_both (Err e) a refused make = tt
+
+pub by_queue : (P : LogQueue → Type 0) → P Append → P Rewrite → (queue : LogQueue) → P queue
+by_queue P append rewrite Append = append
+by_queue P append rewrite Rewrite = rewrite
+
 -- ---- one queue
 
-number_in : Option ℕ → ℕ
+abbrev number_in : Option ℕ → ℕ
 number_in None = 0
 number_in (Some n) = n
 
@@ -40,7 +53,7 @@ recovered_whole directories queue old new names files opened each name fd among 
 
 -- ---- both queues
 
-module _ (directories : List Text) (old mid new : Disk) (rewrites appends : List FileName) (was : IsNamed old) (between : IsNamed mid) (now : IsNamed new) (rewrite_found : AreFound old (Log Rewrite) directories rewrites)
+module _ (directories : List Text) (old mid : Disk) (rewrites appends : List FileName) (was : IsNamed old) (between : IsNamed mid) (rewrite_found : AreFound old (Log Rewrite) directories rewrites)
     (append_found : AreFound old (Log Append) directories appends) (first : OnlyChanges directories Rewrite rewrites old mid) where
   rewrite_numbers : AreNumbered (length directories) rewrites
   rewrite_numbers = found_numbered old (Log Rewrite) directories (length directories) rewrites (omega arith) rewrite_found
@@ -69,19 +82,18 @@ module _ (directories : List Text) (old mid new : Disk) (rewrites appends : List
         same = λ path n fd says found. sym (same.same path n fd says (same.back path n fd says found));
       }
 
-  pub append_whole : AreWholeIn directories Append appends mid new → AreWholeIn directories Append appends old new
-  append_whole whole name fd among of =
+  pub append_whole : (new : Disk) → AreWholeIn directories Append appends mid new → AreWholeIn directories Append appends old new
+  append_whole new whole name fd among of =
       let below = (number_of (length directories) appends append_numbers name among).0 in
       subst (λ (f : FileState). IsWhole (id_of Append name.seq) (new.file fd) (batches_in (id_of Append name.seq) f.bytes)) (bytes_same Append old mid append_same was between directories name fd below of)
       (whole name fd among (file_same Append old mid append_same was between directories name fd below of))
 
-  module _ (second : OnlyChanges directories Append appends mid new) where
-    pub rewrite_whole : AreWholeIn directories Rewrite rewrites old mid → AreWholeIn directories Rewrite rewrites old new
-    rewrite_whole whole name fd among of =
-        let below = (number_of (length directories) rewrites rewrite_numbers name among).0 in
-        let same : HaveSame Rewrite mid new = have_beside Append Rewrite mid new (apart_from Append) between now (only_others directories Append (length directories) appends mid new between append_numbers second) in
-        let there : IsFileOf mid directories Rewrite name fd = subst (λ (l : Names). fd_of l (path_of directories Rewrite name) ≡ Some fd) (sym first.names_stay) of in
-        subst (λ (f : FileState). IsWhole (id_of Rewrite name.seq) f (batches_in (id_of Rewrite name.seq) (old.file fd).bytes)) (sym (bytes_same Rewrite mid new same between now directories name fd below there)) (whole name fd among of)
+  pub rewrite_whole : (new : Disk) → IsNamed new → OnlyChanges directories Append appends mid new → AreWholeIn directories Rewrite rewrites old mid → AreWholeIn directories Rewrite rewrites old new
+  rewrite_whole new now second whole name fd among of =
+      let below = (number_of (length directories) rewrites rewrite_numbers name among).0 in
+      let same : HaveSame Rewrite mid new = have_beside Append Rewrite mid new (apart_from Append) between now (only_others directories Append (length directories) appends mid new between append_numbers second) in
+      let there : IsFileOf mid directories Rewrite name fd = subst (λ (l : Names). fd_of l (path_of directories Rewrite name) ≡ Some fd) (sym first.names_stay) of in
+      subst (λ (f : FileState). IsWhole (id_of Rewrite name.seq) f (batches_in (id_of Rewrite name.seq) (old.file fd).bytes)) (sym (bytes_same Rewrite mid new same between now directories name fd below there)) (whole name fd among of)
 
 -- ---- from before the directory was made
 

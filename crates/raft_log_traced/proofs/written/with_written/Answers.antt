@@ -17,5 +17,5 @@ loop-item-preserved c =
     let sets = counted_item sets_by (take index items) (take (index + 1) items) item c.args.before.sets c.loop-item.counts.sets _ more (ap (λ (r : RewriteCounts). r.sets) c.loop-item.invariant)
     (c.saturating_add.ensures ∙ ap (λ (n : ℕ). counted (c.loop-item.counts.sets + n)) c.sets_of.ensures) in
     let marks = counted_item marks_by (take index items) (take (index + 1) items) item c.args.before.marks c.loop-item.counts.marks _ more (ap (λ (r : RewriteCounts). r.marks) c.loop-item.invariant)
-    (c.saturating_add-2.ensures ∙ ap (λ (n : ℕ). counted (c.loop-item.counts.marks + n)) c.marks_of.ensures) in
+    (c.saturating_add-in-loop-item.ensures ∙ ap (λ (n : ℕ). counted (c.loop-item.counts.marks + n)) c.marks_of.ensures) in
     λ i. record { sets = sets i; marks = marks i }
