@@ -88,9 +88,9 @@ fn both_due(
 
 /// Which queues of a log are due, if one is (raft-engine's `needs_rewrite_log_files`, of both). The
 /// rewrite queue is where it has old files and may have more bytes than a threshold, and more per cent
-/// than the settings say of the entries, keys and marks (these are ours) that were written to it count
-/// no more; but not where an opening found records of an atomic group in it that stand apart. The append
-/// queue is where it is large.
+/// than the settings say of the entries and keys that were written to it, or of these with its marks
+/// (own), count no more; but not where an opening found records of an atomic group in it that stand
+/// apart. The append queue is where it is large.
 /// Neither is where an opening found a batch of the append queue that belongs to an atomic group. The
 /// only error is want of memory, and it comes only where the rewrite queue is large.
 pub fn due_of(

@@ -269,9 +269,10 @@ impl<F: FileSystem + Drop> Engine<F> {
     ///
     /// The rewrite queue comes first. It is written anew where it has more than one file, these may have
     /// more bytes than `purge_rewrite_threshold` of the settings, and more than
-    /// `purge_rewrite_garbage_percent` of the entries, keys and marks that were written to it, since it was
-    /// last written anew, count no more. Groups with more than 32 entries in it are told. Where an opening
-    /// found records of an atomic group in it that stand apart it is left alone.
+    /// `purge_rewrite_garbage_percent` of the entries and keys that were written to it, since it was last
+    /// written anew, or of these with its marks, count no more. Groups with more than 32 entries in it
+    /// are told. Where an opening found records of an atomic group in it that stand apart it is left
+    /// alone.
     ///
     /// The append queue is cleaned where its files may have more bytes than `purge_threshold`. Groups are
     /// told that hold old files back: with something in the oldest files, or entries in the rewrite queue,
