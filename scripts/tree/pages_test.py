@@ -50,15 +50,13 @@ stranger_to_all = 7
 TABLE = "| Promise | Function | Clause |\n|---|---|---|\n"
 EDITS = "| What | Edit |\n|---|---|\n"
 THEMES = "| What | Crates | Wrong bodies |\n|---|---|---|\n"
-LAYERS = "| Crate | What it does | Stands on | There |\n|---|---|---|---|\n| raft_low | low | | yes |\n"
 FILES = "| File | What it defines |\n|---|---|\n"
 TREE = {
     "crates.txt": "# floors\nraft_low:\nraft_chest: raft_low thiserror\nraft_chest_rows: raft_chest\n",
     "README.md": "# Top\n\n[arch](docs/ARCHITECTURE.md#the-crates), scripts/edits and `scripts/edits/CRATE`.\n",
     "docs/GATE.md": "# Gate\n\n| Crate | proof |\n|---|---|\n| raft_gone | 1.0 |\n",
     "docs/GUIDE.md": "# Guide\n\n`1 open -> open`\n\n```rust\nfn lid() {}\n```\n",
-    "docs/ARCHITECTURE.md": f"# Plan\n\n## The crates\n\n{LAYERS}| raft_chest | chests | raft_low | yes |\n\n"
-                            f"{FILES}| raft_chest/specs/Chest | `IsOpen`, `lid_there` |\n",
+    "docs/ARCHITECTURE.md": f"# Plan\n\n## The crates\n\n{FILES}| raft_chest/specs/Chest | `IsOpen`, `lid_there` |\n",
     "docs/PROMISES.md": f"# Promises\n\n## Chests (raft_chest)\n\n{TABLE}| a | `impl Box for Chest`, `many_lids` | `opened` |\n"
                         f"\n{EDITS}| b | `a_lid_stays` (raft_chest) |\n"
                         f"\n{THEMES}| c | raft_chest | some 1 |\n| d | all others | some 0 |\n",
@@ -101,10 +99,6 @@ FAULTS = [
     ("raft_chest | some 1", "raft_chest | 1", "docs/PROMISES.md", "the row has no number"),
     ("all others", "raft_chest", "docs/PROMISES.md", "raft_chest stands in more than one row"),
     ("raft_chest | some 1 |\n| d | all others", "raft_low", "docs/PROMISES.md", "no row has the wrong bodies of raft_chest"),
-    ("| raft_chest | chests", "| raft_box | chests", "docs/ARCHITECTURE.md", "raft_box isn't in crates.txt"),
-    ("| raft_chest | chests | raft_low | yes |\n", "", "docs/ARCHITECTURE.md", "the library raft_chest has no row"),
-    ("chests | raft_low |", "chests | raft_chest_rows |", "docs/ARCHITECTURE.md", "raft_chest_rows is no library"),
-    ("| low | |", "| low | raft_chest |", "docs/ARCHITECTURE.md", "raft_low doesn't stand on raft_chest"),
     ("raft_chest/specs/Chest", "raft_chest/specs/Lid", "docs/ARCHITECTURE.md", "raft_chest/specs/Lid isn't there"),
     ("`lid_there`", "`lid_where`", "docs/ARCHITECTURE.md", "no definition lid_where"),
     ("3 rows", "1 rows", "docs/TESTED.md", "raft_chest_rows has 3 rows, not 1"),

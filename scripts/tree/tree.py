@@ -64,10 +64,6 @@ class Tree:
                  *sorted(glob.glob("crates/*/README.md", root_dir=self.top))]
         return [it for it in map(self.page, paths) if it]
 
-    def is_library(self, crate):
-        """Whether a crate has a library."""
-        return os.path.exists(f"{self.top}/crates/{crate}/src/lib.rt")
-
     def is_specs(self, path):
         """Whether CRATE/specs/NAME is a file or a folder."""
         return any(os.path.exists(f"{self.top}/crates/{path}{end}") for end in ("", ".antt"))
