@@ -140,8 +140,8 @@ module _ (directory : Text) (b : DualPipesBuilder) (at : directories_in b ≡ di
     names = only.names_stay ∙ kept_made.names;
     files = λ fd outside.
         only.files fd (λ name among of.
-        outside queue (names_in b queue) name (found_then queue found) among
-        (subst (λ (l : Names). fd_of l (path_of In queue name) ≡ Some fd) kept_made.names (subst (λ (l : List Text). IsFileOf made l queue name fd) at of)))
+        outside
+        (queue, names_in b queue, name, found_then queue found, among, subst (λ (l : Names). fd_of l (path_of In queue name) ≡ Some fd) kept_made.names (subst (λ (l : List Text). IsFileOf made l queue name fd) at of)))
         ∙ kept_made.files fd outside;
   }
 
@@ -153,6 +153,6 @@ module _ (directory : Text) (b : DualPipesBuilder) (at : directories_in b ≡ di
         names = second.names_stay ∙ before.names;
         files = λ fd outside.
             second.files fd (λ name among of.
-            outside two (names_in b two) name (found_then two two_found) among (subst (λ (l : Names). fd_of l (path_of In two name) ≡ Some fd) before.names (subst (λ (l : List Text). IsFileOf mid l two name fd) at of)))
+            outside (two, names_in b two, name, found_then two two_found, among, subst (λ (l : Names). fd_of l (path_of In two name) ≡ Some fd) before.names (subst (λ (l : List Text). IsFileOf mid l two name fd) at of)))
             ∙ before.files fd outside;
       }

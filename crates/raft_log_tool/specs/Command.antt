@@ -25,6 +25,10 @@ mode_text AbsoluteConsistency = codes "absolute-consistency"
 mode_text TolerateTailCorruption = codes "tolerate-corrupted-tail-records"
 mode_text TolerateAnyCorruption = codes "tolerate-any-corruption"
 
+-- no mode has this name
+abbrev pub IsNoMode : List ℕ → Type 0
+IsNoMode word = (mode : RecoveryMode) → mode_text mode ≢ word
+
 -- the words of a command
 abbrev pub words_of : Command → List (List ℕ)
 words_of command.Help = verb_text verb.Help ∷ []
@@ -53,5 +57,5 @@ IsWrong NoDirectory words = (name : Verb) × (0 < needs name) × (words ≡ verb
 IsWrong NoTarget words = (name : Verb) × (1 < needs name) × (directory : List ℕ) × (words ≡ verb_text name ∷ directory ∷ [])
 IsWrong NoMode words = (name : Verb) × (2 < needs name) × (directory target : List ℕ) × (words ≡ verb_text name ∷ directory ∷ target ∷ [])
 IsWrong UnknownMode words =
-    (name : Verb) × (2 < needs name) × (directory target last : List ℕ) × (words ≡ verb_text name ∷ directory ∷ target ∷ last ∷ []) × ((mode : RecoveryMode) → mode_text mode ≢ last)
+    (name : Verb) × (2 < needs name) × (directory target last : List ℕ) × (words ≡ verb_text name ∷ directory ∷ target ∷ last ∷ []) × IsNoMode last
 IsWrong TooMany words = (name : Verb) × (rest : List (List ℕ)) × (needs name < length rest) × (words ≡ verb_text name ∷ rest)

@@ -30,10 +30,13 @@ abbrev pub HasRefusedIn : RecoveryMode → Text → Disk → Type 0
 HasRefusedIn mode directory d =
     (queue : LogQueue) × (names : List FileName) × AreFound d (Log queue) (directory ∷ []) names × AnyRefused mode (directory ∷ []) queue names d
 
+-- an opening of the directory finds this file
+abbrev pub IsFoundIn : Text → Disk → ℕ → Type 0
+IsFoundIn directory d fd =
+    (queue : LogQueue) × (names : List FileName) × (name : FileName) × AreFound d (Log queue) (directory ∷ []) names × IsIn name names
+    × IsFileOf d (directory ∷ []) queue name fd
+
 -- all names stay, and all files that an opening of the directory doesn't find
 pub record KeepsOutside (directory : Text) (old new : Disk) : Type 0 where
   pub names : new.names ≡ old.names
-  pub files :
-      (fd : ℕ)
-      → ((queue : LogQueue) (found : List FileName) (name : FileName) → AreFound old (Log queue) (directory ∷ []) found → IsIn name found → IsFileOf old (directory ∷ []) queue name fd → ⊥)
-      → new.file fd ≡ old.file fd
+  pub files : (fd : ℕ) → (IsFoundIn directory old fd → ⊥) → new.file fd ≡ old.file fd

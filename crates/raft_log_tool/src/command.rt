@@ -1,7 +1,6 @@
 //! What the arguments ask for.
 ghost use Rattle.std.specs.Prelude.{◌≡◌, ◌≢◌, [], ◌∷◌, IfOk, IfErr, IfSome, IsNone, map, string_bytes};
-ghost use Rattle.raft_log_files.specs.declared.recovery.RecoveryMode.{RecoveryMode};
-ghost use Rattle.raft_log_tool.specs.Command.{IsWrong, mode_text, verb_text, words_of};
+ghost use Rattle.raft_log_tool.specs.Command.{IsNoMode, IsWrong, mode_text, verb_text, words_of};
 
 use raft_log_files::RecoveryMode;
 use thiserror::Error;
@@ -89,7 +88,7 @@ fn verb_in(word: &str) -> Option<Verb>
 // The mode of a name, as the settings spell it.
 fn mode_in(word: &str) -> Option<RecoveryMode>
     ensures some { IfSome result (λ mode. mode_text mode ≡ word.now) }
-    ensures none { IsNone result → (mode : RecoveryMode) → mode_text mode ≢ word.now }
+    ensures none { IsNone result → IsNoMode word.now }
 {
     match word {
         "absolute-consistency" => Some(RecoveryMode::AbsoluteConsistency),
