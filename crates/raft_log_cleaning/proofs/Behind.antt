@@ -15,6 +15,7 @@ use Rattle.raft_log_purge.specs.declared.reports.Reports.{Reports}
 use Rattle.raft_log_purge.specs.Due.{IsLarge}
 use Rattle.raft_log_purge.specs.Going.{GoesToNeeded}
 use Rattle.raft_log_traces.specs.GroupTraces.{traces_in}
+use Rattle.raft_log_purge.specs.declared.due.RewriteCounts.{RewriteCounts}
 use Rattle.raft_log_traced.specs.declared.traced.TracedTables.{TracedTables}
 use Rattle.raft_log_cleaner.specs.declared.manager.PurgeManager.{PurgeManager}
 use Rattle.raft_log_cleaner.specs.Cleaning.{CanClean, Cleans, IsLeftStanding, KeepsFromBarrier}
@@ -32,8 +33,8 @@ use Rattle.raft_log_cleaning.specs.Stale.{IsPurged}
 use Rattle.raft_log_cleaning.specs.Told.{AreMany, IsCleanedAnew, IsToldBehind}
 
 -- the counters begin again
-pub written_set : (d : Disk) (p : DualPipes) (log : TracedTables) (n : ℕ) (content : Content (List ℕ)) → CanClean d p log content → CanClean d p (record log { written = n }) content
-written_set d p log n content can = record {
+pub written_set : (d : Disk) (p : DualPipes) (log : TracedTables) (counts : RewriteCounts) (content : Content (List ℕ)) → CanClean d p log content → CanClean d p (record log { written = counts }) content
+written_set d p log counts content can = record {
   rewrites = can.rewrites;
   appends = can.appends;
   pipes = can.pipes;
