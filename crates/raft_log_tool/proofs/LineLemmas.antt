@@ -8,7 +8,8 @@ use Rattle.raft_log_records.specs.declared.item.EntryIndex.{EntryIndex}
 use Rattle.raft_log_disk.specs.Text.{Text}
 use Rattle.raft_log_items.specs.Holes.{last_behind}
 use Rattle.raft_log_tool.specs.declared.span.FileSize.{FileSize}
-use Rattle.raft_log_tool.specs.Lines.{entries_text, named, sum_of}
+use Rattle.raft_log_contents.specs.Endings.{named}
+use Rattle.raft_log_tool.specs.Lines.{entries_text, sum_of}
 use Rattle.raft_log_tool.specs.Span.{files_text, last_number}
 
 -- ---- one element more

@@ -1,5 +1,4 @@
 pub mod Command
-pub mod Content
 pub mod Lines
 pub mod Repairs
 pub mod Sizes

@@ -8,7 +8,8 @@ use Rattle.raft_log_records.specs.Item.{Change, Item}
 use Rattle.raft_log_records.specs.Item.Change.{entries, clean, compact, put, delete, mark}
 use Rattle.raft_log_tool.specs.declared.sizes.GroupBytes.{GroupBytes}
 use Rattle.raft_log_tool.specs.declared.sizes.GroupSizes.{GroupSizes}
-use Rattle.raft_log_tool.specs.Lines.{named, newline, sum_of}
+use Rattle.raft_log_contents.specs.Endings.{named, newline}
+use Rattle.raft_log_tool.specs.Lines.{sum_of}
 
 -- numbers, as far as a number goes
 abbrev pub capped : ℕ → ℕ

@@ -4,7 +4,8 @@ use Rattle.raft_log_disk.specs.Disk.{Disk, fd_of}
 use Rattle.raft_log_items.specs.Found.{Found}
 use Rattle.raft_log_records.specs.declared.file_id.LogQueue.{LogQueue}
 use Rattle.raft_log_tool.specs.declared.span.FileSize.{FileSize}
-use Rattle.raft_log_tool.specs.Lines.{named, newline, queue_text, sum_of}
+use Rattle.raft_log_contents.specs.Endings.{named, newline, queue_text}
+use Rattle.raft_log_tool.specs.Lines.{sum_of}
 
 -- how long the file of a number is; without one there are no bytes
 abbrev pub bytes_at : Disk → Option ℕ → ℕ

@@ -3,7 +3,7 @@ ghost use Rattle.std.specs.Prelude.{◌≡◌, ◌++◌, IfOk, OnOk, string_byte
 ghost use Rattle.std.specs.List.{flat_map};
 ghost use Rattle.raft_log_tool.specs.Lines.{hole_text, holes_text};
 
-use crate::numbers::push_named;
+use raft_log_contents::push_named;
 use std::alloc::{AllocError, Global};
 
 // The text, and behind it the line of a group and of the last index before its first hole.

@@ -5,8 +5,7 @@ ghost use Rattle.raft_log_records.specs.Item.{change_of, command_change, item_of
 ghost use Rattle.hex.specs.Hex.{encode_lower};
 ghost use Rattle.raft_log_tool.specs.Lines.{change_text, entries_text, item_text, mark_text, sum_of};
 
-use crate::ending::push_file;
-use crate::numbers::push_named;
+use raft_log_contents::{push_file, push_named};
 use raft_log_records::{AtomicGroupStatus, Command, EntryIndex, FileId, LogItem, LogItemContent};
 use std::alloc::{AllocError, Global};
 

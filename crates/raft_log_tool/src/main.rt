@@ -3,15 +3,11 @@
 #![tactic(auto)]
 
 mod command;
-mod content;
 mod copying;
 mod directory;
-mod ending;
 mod failure;
 mod holes;
 mod lines;
-mod log_files;
-mod numbers;
 mod repairing;
 mod running;
 mod sizes;

@@ -9,7 +9,7 @@ ghost use Rattle.raft_log_recovery.specs.Queue.{AnyRefused, OnlyChanges, directo
 ghost use Rattle.raft_log_recovery.specs.Scan.{OnlyMakes};
 ghost use Rattle.raft_log_tool.specs.Repairs.{AreWholeIn, HasRefusedIn, IsRepairedIn, KeepsOutside};
 
-use crate::content::ItemList;
+use raft_log_contents::ItemList;
 use raft_log_files::{Config, Error, FileSystem, RecoveryConfig, RecoveryMode};
 use raft_log_records::LogQueue;
 use raft_log_recovery::DualPipesBuilder;

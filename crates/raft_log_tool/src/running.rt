@@ -3,17 +3,17 @@ ghost use Rattle.std.specs.Prelude.{◌≡◌, IfOk, string_bytes};
 ghost use Rattle.raft_log_tool.specs.Lines.{content_text, is_finding};
 
 use crate::command::Command;
-use crate::content::{Ending, LogContent, read_content};
 use crate::copying::{check_target, fork_directory, write_copies};
 use crate::directory::read_directory;
-use crate::ending::{push_cut, push_ending};
 use crate::failure::{End, Failure};
 use crate::holes::text_of_holes;
 use crate::lines::push_items;
-use crate::log_files::{LogFile, files_of_queue};
 use crate::repairing::repair_directory;
 use crate::sizes::GroupSizes;
 use crate::span::{sizes_of, text_of_span};
+use raft_log_contents::{
+    Ending, LogContent, LogFile, files_of_queue, push_cut, push_ending, read_content,
+};
 use raft_log_files::{Error, FileSystem, MemoryFileSystem, RecoveryMode};
 use raft_log_records::LogQueue;
 use raft_log_tools::{CopyDetails, consistency_check};

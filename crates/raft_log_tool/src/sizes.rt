@@ -8,7 +8,7 @@ ghost use Rattle.raft_log_records.specs.declared.item.EntryIndex.{EntryIndex};
 ghost use Rattle.raft_log_tool.specs.Sizes.{HasSizes, bytes_in, group_text, plus, with_bytes};
 
 use crate::lines::entries_len;
-use crate::numbers::push_named;
+use raft_log_contents::push_named;
 use raft_log_records::{LogItem, LogItemContent};
 use std::alloc::{AllocError, Global};
 use std::collections::BTreeMap;

@@ -1,12 +1,10 @@
 //! The files of a queue, from the first to the last.
 ghost use Rattle.std.specs.Prelude.{◌≡◌, ◌++◌, IfOk, OnOk, map, string_bytes};
-ghost use Rattle.raft_log_tool.specs.Content.{found_of};
+ghost use Rattle.raft_log_contents.specs.Content.{found_of};
 ghost use Rattle.raft_log_tool.specs.Lines.{sum_of};
 ghost use Rattle.raft_log_tool.specs.Span.{files_text, size_of, span_text};
 
-use crate::ending::queue_name;
-use crate::log_files::LogFile;
-use crate::numbers::push_named;
+use raft_log_contents::{LogFile, push_named, queue_name};
 use raft_log_files::{Error, FileSystem, Permission};
 use raft_log_records::{FileSeq, LogQueue};
 use std::alloc::{AllocError, Global};

@@ -2,7 +2,7 @@ use Rattle.std.proofs.Common.{◌≡◌, ◌++◌, ◌-◌, length, Some, codes,
 use Rattle.std.specs.Prelude.{slice_get, string_bytes}
 use Rattle.std.specs.Option.{option_copied}
 use Rattle.raft_log_disk.specs.Text.{Text}
-use Rattle.raft_log_tool.specs.Lines.{named}
+use Rattle.raft_log_contents.specs.Endings.{named}
 use Rattle.raft_log_tool.proofs.LineLemmas.{are_files, files_said, three}
 use Rattle.raft_log_tool.proofs.span.push_span.Goals as goal
 

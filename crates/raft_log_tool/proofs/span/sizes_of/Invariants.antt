@@ -1,7 +1,7 @@
 use Rattle.std.proofs.Common.{◌≡◌, map, take}
-use Rattle.raft_log_tool.specs.Content.{found_of}
+use Rattle.raft_log_contents.specs.Content.{found_of}
 use Rattle.raft_log_tool.specs.Span.{size_of}
-use Rattle.raft_log_tool.specs.declared.log_files.LogFile.{LogFile}
+use Rattle.raft_log_contents.specs.declared.log_files.LogFile.{LogFile}
 use Rattle.raft_log_tool.proofs.span.sizes_of.Given as goal
 
 abbrev pub invariant-loop-file : goal.invariant-loop-file

@@ -1,7 +1,7 @@
 //! What stands in a log file.
 ghost use Rattle.std.specs.Prelude.{◌≡◌, ◌==◌, IfOk, drop, take};
 ghost use Rattle.std.specs.List.{list_all};
-ghost use Rattle.raft_log_tool.specs.Content.{IsContentOf, ending_in, found_of};
+ghost use Rattle.raft_log_contents.specs.Content.{IsContentOf, ending_in, found_of};
 
 use crate::log_files::LogFile;
 use raft_log_files::{CorruptionFault, Error, Fd, FileSystem, Permission};
@@ -35,14 +35,14 @@ pub struct LogContent {
     pub ending: Ending,
 }
 
-/// Keeps the items of the batches that it replays.
+/// Keeps the items of the batches that it replays (own).
 #[derive(Drop)]
-pub(crate) struct ItemList {
+pub struct ItemList {
     pub items: Vec<LogItem>,
 }
 
 impl ReplayMachine for ItemList {
-    ghost use Rattle.raft_log_tool.specs.Content.{HasItems};
+    ghost use Rattle.raft_log_contents.specs.Content.{HasItems};
 
     ghost has_replayed = { HasItems };
 

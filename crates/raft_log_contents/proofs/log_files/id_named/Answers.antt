@@ -2,7 +2,7 @@ use Rattle.std.proofs.Common.{◌≡◌, rules, sym, ◌∙◌, refl}
 use denote.Enum.Bare.{same_false}
 use Rattle.raft_log_records.specs.contracts.file_id.LogQueue.{the_type}
 use Rattle.raft_log_items.proofs.FoundLemmas.{not_parsed, parsed, parsed_other}
-use Rattle.raft_log_tool.proofs.log_files.id_named.Goals as goal
+use Rattle.raft_log_contents.proofs.log_files.id_named.Goals as goal
 
 pub returns-then-eq : goal.returns-then-eq
 returns-then-eq c =

@@ -1,6 +1,6 @@
 //! The text of how the reading of a file ended.
 ghost use Rattle.std.specs.Prelude.{◌≡◌, ◌++◌, OnOk, string_bytes};
-ghost use Rattle.raft_log_tool.specs.Lines.{cut_text, ending_text, fault_name, file_text, queue_text};
+ghost use Rattle.raft_log_contents.specs.Endings.{cut_text, ending_text, fault_name, file_text, queue_text};
 
 use crate::content::{Ending, LogContent};
 use crate::numbers::push_named;

@@ -9,8 +9,8 @@ use Rattle.raft_log_records.specs.declared.file_id.FileId.{FileId}
 use Rattle.raft_log_records.specs.declared.file_id.LogQueue.{LogQueue}
 use Rattle.raft_log_disk.specs.Text.{Text}
 use Rattle.raft_log_items.specs.Found.{Found, file_named, id_in, log_files, path_in}
-use Rattle.raft_log_tool.specs.declared.log_files.LogFile.{LogFile}
-use Rattle.raft_log_tool.specs.Content.{found_of}
+use Rattle.raft_log_contents.specs.declared.log_files.LogFile.{LogFile}
+use Rattle.raft_log_contents.specs.Content.{found_of}
 
 -- ---- files of names
 

@@ -1,11 +1,11 @@
 use Rattle.std.proofs.Common.{◌≡◌, List, map, string_bytes, rules, ap, subst, ◌∙◌}
 use Rattle.std.specs.Prelude.{IsPermutation}
 use Rattle.std.proofs.lemmas.List.Sorted.{IsNonDecreasingBy-from_sort_by_key, IsPermutation-map}
-use Rattle.raft_log_tool.specs.declared.log_files.LogFile.{LogFile}
+use Rattle.raft_log_contents.specs.declared.log_files.LogFile.{LogFile}
 use Rattle.raft_log_items.specs.Found.{Found, log_files}
-use Rattle.raft_log_tool.specs.Content.{found_of}
-use Rattle.raft_log_tool.proofs.FoundLemmas.{rising_found}
-use Rattle.raft_log_tool.proofs.log_files.files_of_queue.Goals as goal
+use Rattle.raft_log_contents.specs.Content.{found_of}
+use Rattle.raft_log_contents.proofs.FoundLemmas.{rising_found}
+use Rattle.raft_log_contents.proofs.log_files.files_of_queue.Goals as goal
 
 pub returns-clause-ok : goal.returns-clause-ok
 returns-clause-ok g c =

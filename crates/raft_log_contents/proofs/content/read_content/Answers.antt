@@ -6,9 +6,9 @@ use Rattle.raft_log_items.specs.Items.{items_in}
 use Rattle.raft_log_disk.specs.Disk.{Disk, fd_of}
 use Rattle.raft_log_records.specs.declared.item.LogItem.{LogItem}
 use Rattle.raft_log_records.specs.Item.{items_of}
-use Rattle.raft_log_tool.specs.Content.{ending_in}
-use Rattle.raft_log_tool.proofs.ReadLemmas.{placed_items}
-use Rattle.raft_log_tool.proofs.content.read_content.Goals as goal
+use Rattle.raft_log_contents.specs.Content.{ending_in}
+use Rattle.raft_log_contents.proofs.ReadLemmas.{placed_items}
+use Rattle.raft_log_contents.proofs.content.read_content.Goals as goal
 
 pub returns-clause-ok : goal.returns-clause-ok
 returns-clause-ok g c =

@@ -8,11 +8,11 @@ use Rattle.raft_log_recovery.specs.Repair.{batches_in, end_in, fault_in}
 use Rattle.raft_log_recovery.specs.Replay.{Placed}
 use Rattle.raft_log_items.specs.Found.{Found}
 use Rattle.raft_log_items.specs.Items.{items_in}
-use Rattle.raft_log_tool.specs.declared.content.Ending.{Ending}
-use Rattle.raft_log_tool.specs.declared.content.Ending.TheVariants.{Fault, Room, Whole}
-use Rattle.raft_log_tool.specs.declared.content.ItemList.{ItemList}
-use Rattle.raft_log_tool.specs.declared.content.LogContent.{LogContent}
-use Rattle.raft_log_tool.specs.declared.log_files.LogFile.{LogFile}
+use Rattle.raft_log_contents.specs.declared.content.Ending.{Ending}
+use Rattle.raft_log_contents.specs.declared.content.Ending.TheVariants.{Fault, Room, Whole}
+use Rattle.raft_log_contents.specs.declared.content.ItemList.{ItemList}
+use Rattle.raft_log_contents.specs.declared.content.LogContent.{LogContent}
+use Rattle.raft_log_contents.specs.declared.log_files.LogFile.{LogFile}
 
 abbrev pub found_of : LogFile → Found
 found_of file = (file.id, string_bytes file.path)

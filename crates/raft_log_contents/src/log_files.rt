@@ -2,7 +2,7 @@
 ghost use Rattle.std.specs.Prelude.{◌≡◌, ◌++◌, ◌∷◌, [], IfOk, IfErr, OnOk, map, string_bytes};
 ghost use Rattle.raft_log_files.specs.declared.error.Error.TheVariants.{Memory};
 ghost use Rattle.raft_log_items.specs.Found.{IsQueue, id_in, log_files, path_in};
-ghost use Rattle.raft_log_tool.specs.Content.{found_of};
+ghost use Rattle.raft_log_contents.specs.Content.{found_of};
 
 use raft_log_files::{Error, FileNameExt, FileSystem};
 use raft_log_records::{FileId, LogQueue};

@@ -1,6 +1,6 @@
 use Rattle.std.proofs.Common.{string_bytes}
 use Rattle.raft_log_items.proofs.FoundLemmas.{named_more}
-use Rattle.raft_log_tool.proofs.log_files.files_named.Goals as goal
+use Rattle.raft_log_contents.proofs.log_files.files_named.Goals as goal
 
 pub loop-name-preserved : goal.loop-name-preserved
 loop-name-preserved c =
