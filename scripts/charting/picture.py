@@ -25,7 +25,7 @@ class Legend:
         self.add(38, "comes again", lambda x, y: pieces.level(x, x + 38, y, GREY, stroke_dasharray="5 3"))
         self.add(24, "never comes", lambda x, y: pieces.stub(x, y, 1, GREY))
         if has_kinds:
-            self.add(24, "its kind: by the plain rules", lambda x, y: text_at(x, y + 4, "vote", fill=GREY))
+            self.add(24, "kind of frame, by the plain rules", lambda x, y: text_at(x, y + 4, "vote", fill=GREY))
         self.turn()
         self.add(10, "event", lambda x, y: pieces.event(x + 5, y, GREY))
         self.add(10, "crash: the machine stops", lambda x, y: pieces.crash(x + 5, y))

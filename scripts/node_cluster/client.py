@@ -29,7 +29,7 @@ class Client:
         self.node = 1
 
     def run(self, text):
-        """Asks until the command is told, or can't be. What a node says again isn't shown again."""
+        """Asks until the command is told, or can't be; whether it was told. What a node says again isn't shown again."""
         end, said = time.monotonic() + PATIENCE, {}
         while time.monotonic() < end:
             node, self.node = self.node, self.node % len(self.ports) + 1
@@ -39,19 +39,23 @@ class Client:
                 self.node = node
                 before = "" if text.startswith("get ") else "before it: "
                 print(f"node {node}: told at place {words[1]}, {before}{words[2]}")
-                return
+                return True
             if words[0] in ("unknown", "no"):
                 answer += f": {AGAIN}"
             if said.get(node) != answer or AGAIN in answer:
                 print(f"node {node}: {answer}")
             if words[0] == "full" or answer == "refused no command":
-                return
+                return False
             said[node] = answer
             if words[:3] == ["refused", "1", "NotLeader"] and words[3] in map(str, range(1, len(self.ports) + 1)):
                 self.node = int(words[3])
             time.sleep(PAUSE)
         print(f"nothing was told within {PATIENCE} seconds")
+        return False
 
     def status(self):
-        for node, port in enumerate(self.ports, 1):
-            print(f"node {node}: {ask(port, 'status')}")
+        """Shows what each node says; whether any says its status."""
+        answers = [ask(port, "status") for port in self.ports]
+        for node, answer in enumerate(answers, 1):
+            print(f"node {node}: {answer}")
+        return any(answer.startswith("status ") for answer in answers)
