@@ -4,6 +4,7 @@
 #![tactic(auto)]
 
 mod end;
+mod faults;
 mod home;
 mod input;
 mod output;
