@@ -1,9 +1,9 @@
 //! What is damaged in a node's files.
+ghost use Rattle.std.specs.Prelude.{◌≡◌};
 
 use crate::home::DiskHome;
 use raft_log_contents::{Ending, LogFile, files_of_queue, push_ending, read_content};
-use raft_log_files::Error;
-use raft_log_host::HostFileSystem;
+use raft_log_files::{Error, FileSystem};
 use raft_log_records::LogQueue;
 use raft_script_machines::ScriptMachine;
 
@@ -28,7 +28,9 @@ impl Told {
 
 impl<M: ScriptMachine> DiskHome<M> {
     // Says on standard error where a file's records end at other bytes than zeros.
-    fn tell_fault(&self, files: &mut HostFileSystem, file: &LogFile) -> Result<(), Error> {
+    fn tell_fault<F: FileSystem>(&self, files: &mut F, file: &LogFile) -> Result<(), Error>
+        ensures { F.disk files.new ≡ F.disk files.old }
+    {
         let content = read_content(files, self.rt.alloc(), file)?;
         if let Ending::Fault(_) = content.ending {
             let mut line = String::new(self.rt.alloc());
@@ -41,12 +43,14 @@ impl<M: ScriptMachine> DiskHome<M> {
     }
 
     // So of a queue's files.
-    fn tell_queue(
+    fn tell_queue<F: FileSystem>(
         &self,
-        files: &mut HostFileSystem,
+        files: &mut F,
         told: Told,
         queue: LogQueue,
-    ) -> Result<(), Error> {
+    ) -> Result<(), Error>
+        ensures { F.disk files.new ≡ F.disk files.old }
+    {
         let directory = self.settings.dir.as_str();
         let found = files_of_queue(files, self.rt.alloc(), directory, queue)?;
         for (place, file) in found.iter().enumerate() {
@@ -57,9 +61,11 @@ impl<M: ScriptMachine> DiskHome<M> {
         Ok(())
     }
 
-    /// Says on standard error at which file and byte both queues are damaged. Where memory is missing,
-    /// or a read is refused, the opening tells of it.
-    pub fn tell_faults(&self, files: &mut HostFileSystem, told: Told) {
+    /// Says on standard error at which file and byte both queues are damaged (own). No file changes.
+    /// Where memory is missing, or a read is refused, the opening tells of it.
+    pub fn tell_faults<F: FileSystem>(&self, files: &mut F, told: Told)
+        ensures { F.disk files.new ≡ F.disk files.old }
+    {
         let _ = self.tell_queue(files, told, LogQueue::Rewrite);
         let _ = self.tell_queue(files, told, LogQueue::Append);
     }
