@@ -36,6 +36,7 @@ use Rattle.raft_log_blocks.proofs.HeldLemmas.{answered, held_answered, held_kept
 use Rattle.raft_log_engine.proofs.Tables.{more_content, more_tabled}
 use Rattle.raft_log_engine.proofs.Traced.{IsNoted, more_traced}
 use Rattle.raft_log_traces.specs.declared.group_traces.GroupTraces.{GroupTraces}
+use Rattle.raft_log_purge.specs.declared.due.RewriteCounts.{RewriteCounts}
 use Rattle.raft_log_traced.specs.declared.traced.TracedTables.{TracedTables}
 
 abbrev Seen : Type 0
@@ -251,7 +252,7 @@ module _ {F : Type 0} (disk : F → Disk) (old : Parts F) where
         }
 
     -- the blocks that are kept stay what they are, and the files may be cleaned by the traces of all batches
-    pub done_blocks : (traces others : GroupTraces) (was_marked now_marked was_parted now_parted : Bool) (was_written now_written : ℕ) (cache : BlockCache) → HoldsBlocks (disk old.files) old.pipes (record { tables = old.tables; traces = traces; has_marked = was_marked; is_parted = was_parted; written = was_written }) old.wrote_unsynced cache
+    pub done_blocks : (traces others : GroupTraces) (was_marked now_marked was_parted now_parted : Bool) (was_written now_written : RewriteCounts) (cache : BlockCache) → HoldsBlocks (disk old.files) old.pipes (record { tables = old.tables; traces = traces; has_marked = was_marked; is_parted = was_parted; written = was_written }) old.wrote_unsynced cache
         → IsNoted (record { tables = old.tables; traces = traces; has_marked = was_marked; is_parted = was_parted; written = was_written }) (record { tables = tables; traces = others; has_marked = now_marked; is_parted = now_parted; written = now_written }) h items → (wrote_unsynced : Bool) → (wrote_unsynced ≡ false → (sync ≡ true) × (old.wrote_unsynced ≡ false))
         → HoldsBlocks (disk files) p (record { tables = tables; traces = others; has_marked = now_marked; is_parted = now_parted; written = now_written }) wrote_unsynced cache
     done_blocks traces others was_marked now_marked was_parted now_parted was_written now_written cache held noted wrote_unsynced none =
