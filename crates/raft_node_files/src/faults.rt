@@ -19,9 +19,10 @@ pub enum Told {
 impl Told {
     // Whether it is told of a file, of so many.
     fn has(self, place: usize, count: usize) -> bool {
+        let last = count.saturating_sub(1);
         match self {
-            Told::Last => place + 1 == count,
-            Told::Others => place + 1 < count,
+            Told::Last => place == last,
+            Told::Others => place < last,
         }
     }
 }
