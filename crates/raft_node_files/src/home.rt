@@ -1,6 +1,5 @@
 //! A node at home in a directory of a disk.
 
-use crate::faults::Told;
 use raft_host_log::{HostFiles, HostLog};
 use raft_log_engine::{EngineFault, NotOpened};
 use raft_log_files::{Config, Error};
@@ -83,14 +82,12 @@ impl<M: ScriptMachine> NodeHome for DiskHome<M> {
         let Ok(settings) = self.settings.clone() else {
             return Err(HomeRefusal::Memory);
         };
-        let mut files = self.files()?;
-        self.tell_faults(&mut files, Told::Last);
+        let files = self.files()?;
         match HostLog::open_by_workers(rt, alloc, HostFiles { settings, files }) {
             Ok(log) => Ok(Store::new(alloc, log)),
-            Err(NotOpened { fault, mut files }) => {
+            Err(NotOpened { fault, files }) => {
                 let directory = self.settings.dir.as_str();
                 let _ = eprintln!(&self.rt; "raft: {directory}: {fault}");
-                self.tell_faults(&mut files.files, Told::Others);
                 self.complain_of(&files.files);
                 Err(refusal_of_log(&fault, &files.files))
             }

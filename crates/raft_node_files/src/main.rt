@@ -4,7 +4,6 @@
 #![tactic(auto)]
 
 mod end;
-mod faults;
 mod home;
 mod input;
 mod output;
