@@ -133,13 +133,13 @@ def clause_faults(tree, cell, said):
     functions = said.functions + _of_traits(tree, said.functions)
     wholes = said.wholes + [(tree.crates[it.crate], it.owner) for it in said.functions if it.trait]
     known = _clauses(functions, said.wholes)
-    reached = tree.reached(" ".join([*(it.contract() for it in functions), *_laws(wholes)]))
+    contracts = " ".join([*(it.contract() for it in functions), *_laws(wholes)])
     pieces = re.split(r"(`[^`]+`)", cell)
     for at, piece in enumerate(pieces):
         name = piece.strip("`")
         if not piece.startswith("`") or "/" in name or name in STD | {"ensures"} or _is_call(pieces[at - 1], name, pieces[at + 1], said):
             continue
-        if name not in known and not _is_reached(tree, name, reached, _is_clause(pieces, at)) and not _is_case(tree, name):
+        if name not in known and not _is_reached(tree, name, contracts, _is_clause(pieces, at)) and not _is_case(tree, name):
             yield f"no clause or definition {name} in the contracts of these functions"
 
 
@@ -149,9 +149,13 @@ def _is_clause(pieces, at):
     return pieces[at][1].islower() and before.count("(") == before.count(")") and not pieces[at + 1].startswith(" of")
 
 
-def _is_reached(tree, name, reached, is_clause):
+def _is_reached(tree, name, contracts, is_clause):
     """Whether contracts lead to a name: to a definition, or, where it needn't be one, to a field or a word of one."""
-    return set(name.split(".")) <= reached and (not is_clause or name in tree.words)
+    if is_clause and name not in tree.words:
+        return False
+    parts = set(name.split("."))
+    # (most names stand in the contracts themselves; all that these lead to are thousands of words)
+    return parts <= set(re.findall(r"[\w'-]+", contracts)) or parts <= tree.reached(contracts)
 
 
 def _is_call(before, name, behind, said):
